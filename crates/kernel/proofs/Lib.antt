@@ -1,0 +1,11 @@
+pub mod Run
+pub mod Map
+pub mod Pair
+pub mod Values
+pub mod Chain
+pub mod Lists
+pub mod Bits
+pub mod Held
+pub mod Laid
+pub mod Trip
+pub mod Theorems

@@ -1,0 +1,134 @@
+-- What is written reads back: a law for each step of a reading and of an element, and for one after another.
+use mathlib.Core.Path.{_≡_, refl, sym, subst}
+use mathlib.Core.Bool.{Bool}
+use mathlib.Core.List.{List, [], _∷_, _++_, append-nil}
+use Prim.Native.Nat.{ℕ, _+_, _-_, _*_, _^_, _≤_, _<_, min}
+use native.Mathlib.Nat.{add-zero, add-sub-cancel-left}
+use native.Mathlib.Omega.{arith}
+use lib.ListN.{length, length-append}
+use borrow.Author.Tests.{le-ltb, eq-eqb}
+use Rattle.kernel.specs.declared.Window.{Window}
+use Rattle.kernel.specs.declared.Window.the-variants.{Open, UpTo}
+use Rattle.kernel.specs.Bits.{valueAt, bitsOf, pack, Holds}
+use Rattle.kernel.specs.Reading.{Reading, give, fieldThen, passThen, hereThen, field, pass, here, _>>=_, _>>_, Outcome, gave, refused, fits, fit, onFit, run, after}
+use Rattle.kernel.specs.Element.{Passing, fields, passed, Item, item, Element, done, part, over, spot, Answer, accepted, rejected, withItem, overFit, next, walk, read}
+use Rattle.kernel.specs.Trip.{InWindow, Gives, Reads, Accepts, ReadsAll}
+use Rattle.kernel.proofs.Run.{run-bind}
+use Rattle.kernel.proofs.Bits.{length-bitsOf}
+use Rattle.kernel.proofs.Held.{holds-left, holds-right, holds-value, pack-holds, length-pack}
+
+fit-fits : (win : Window) (bits e : ℕ) → InWindow win e → e ≤ bits → fit win bits e ≡ fits
+unfolding fit
+fit-fits Open bits e i h = rw (le-ltb bits e h)
+fit-fits (UpTo x) bits e i h = rw (le-ltb x e i, le-ltb bits e h)
+
+in-less : (win : Window) (d e : ℕ) → d ≤ e → InWindow win e → InWindow win d
+in-less Open d e k h = tt
+in-less (UpTo x) d e k h = omega arith
+
+-- ---- the steps of a reading
+
+pub reads-give : {A : Type 0} {win : Window} {at : ℕ} {a : A} → Reads win at (give a) [] a
+unfolding run
+reads-give {at} = record { gives = λ s n h r i. (refl, sym (add-zero at)) }
+
+pub reads-field : {win : Window} {at : ℕ} (w v : ℕ) → v < 2 ^ w → Reads win at (field win w) (bitsOf w v) v
+unfolding field run onFit
+reads-field {win} {at} w v hv = record {
+  gives = λ s n h r i.
+      let len : at + length (bitsOf w v) ≡ at + w = rw length-bitsOf in
+      let f : fit win (8 * length s) (at + w) ≡ fits = fit-fits win (8 * length s) (at + w) (rw len at i) (omega arith) in
+      rw f (holds-value s at w v hv h, sym len);
+}
+
+pub reads-pass : {win : Window} {at w : ℕ} (x : List Bool) → length x ≡ w → Reads win at (pass win w) x tt
+unfolding pass run onFit
+reads-pass {win} {at} {w} x e = record {
+  gives = λ s n h r i.
+      let f : fit win (8 * length s) (at + w) ≡ fits = fit-fits win (8 * length s) (at + w) (rw e at i) (omega arith) in
+      rw (f, e) (refl, refl);
+}
+
+pub reads-here : {B : Type 0} {win : Window} {at : ℕ} (f : ℕ → Reading B) {b : List Bool} {c : B} → Reads win at (f at) b c → Reads win at (here >>= f) b c
+unfolding here _>>=_ run
+reads-here f r = record { gives = r .gives }
+
+gives-after : {A B : Type 0} (s : List ℕ) (f : A → Reading B) (o : Outcome A) (a : A) (p : ℕ) (c : B) (q : ℕ) → Gives o a p
+    → ((n : ℕ) → Gives (run s (f a) p n) c q) → Gives (after o (λ a at n. run s (f a) at n)) c q
+unfolding after
+gives-after s f (gave a′ p′ n) a p c q g h = rw (g .0, g .1) (h n)
+gives-after s f (refused r) a p c q g h = absurd g
+
+pub reads-bind : {A B : Type 0} {win : Window} {at : ℕ} {m : Reading A} {x y : List Bool} {a : A} {c : B} (f : A → Reading B)
+    → Reads win at m x a → Reads win (at + length x) (f a) y c → Reads win at (m >>= f) (x ++ y) c
+reads-bind {win} {at} {m} {x} {y} {a} {c} f rm rf = record {
+  gives = λ s n h r i.
+      let len : at + length (x ++ y) ≡ at + length x + length y = simp length-append (omega arith) in
+      rw (run-bind s f m at n, len)
+      (gives-after s f (run s m at n) a (at + length x) c (at + length x + length y)
+      (rm .gives s n (holds-left s at x y h) (omega arith) (in-less win (at + length x) (at + length (x ++ y)) (omega arith) i))
+      (λ n′. rf .gives s n′ (holds-right s at x y h) (rw len at r) (rw len at i)));
+}
+
+-- a bind whose first reading takes a field, and one that takes no bits after it
+pub reads-on : {B : Type 0} {win : Window} {at : ℕ} {y : List Bool} {c : B} (w v : ℕ) (f : ℕ → Reading B) → v < 2 ^ w
+    → Reads win (at + w) (f v) y c → Reads win at (field win w >>= f) (bitsOf w v ++ y) c
+reads-on {win} {at} {y} {c} w v f hv r =
+    reads-bind f (reads-field w v hv) (subst (λ (z : ℕ). Reads win z (f v) y c) (let e : at + w ≡ at + length (bitsOf w v) = rw length-bitsOf in e) r)
+
+pub reads-then : {A B : Type 0} {win : Window} {at : ℕ} {m : Reading A} {x : List Bool} {a : A} {c : B} (f : A → Reading B)
+    → Reads win at m x a → Reads win (at + length x) (f a) [] c → Reads win at (m >>= f) x c
+reads-then {win} {at} {m} {x} {c} f rm rf = subst (λ (z : List Bool). Reads win at (m >>= f) z c) (append-nil x) (reads-bind f rm rf)
+
+-- a reading in a window of its own, which its bits lie in
+pub reads-window : {A : Type 0} {win : Window} {at : ℕ} {m : Reading A} {b : List Bool} {a : A} (inner : Window) → InWindow inner (at + length b)
+    → Reads inner at m b a → Reads win at m b a
+reads-window inner i r = record { gives = λ s n h f _. r .gives s n h f i }
+
+-- ---- the steps of an element
+
+accepts-item : {A : Type 0} (it : Item) (x : Answer A) (a : A) (its : List Item) → Accepts x a its → Accepts (withItem it x) a (it ∷ its)
+unfolding withItem
+accepts-item it (accepted a′ its′ n) a its h = (h .0, rw (h .1))
+accepts-item it (rejected r its′) a its h = absurd h
+
+accepts-next : {A B : Type 0} (kind at w : ℕ) (o : Outcome B) (f : B → ℕ → ℕ → Answer A) (b : B) (a : A) (its : List Item) → Gives o b (at + w)
+    → ((n : ℕ) → Accepts (f b (at + w) n) a its) → Accepts (next kind at o f) a (item fields kind 0 at w ∷ its)
+unfolding next
+accepts-next kind at w (gave b′ p n) f b a its g h =
+    let e : at + w - at ≡ w = omega arith in
+    rw (g .0, g .1, e) (accepts-item (item fields kind 0 at w) (f b (at + w) n) a its (h n))
+accepts-next kind at w (refused r) f b a its g h = absurd g
+
+pub reads-done : {A : Type 0} {at : ℕ} {a : A} → ReadsAll at (done a) [] a []
+unfolding walk
+reads-done {at} = record { accepts = λ s n h l. rw (eq-eqb at (8 * length s) (omega arith)) (refl, refl) }
+
+pub reads-part : {A B : Type 0} {at kind : ℕ} {m : Reading B} {x y : List Bool} {b : B} {a : A} {its : List Item} (f : B → Element A)
+    → Reads Open at m x b → ReadsAll (at + length x) (f b) y a its → ReadsAll at (part B kind m f) (x ++ y) a (item fields kind 0 at (length x) ∷ its)
+unfolding walk
+reads-part {at} {kind} {m} {x} {y} {b} {a} {its} f rm rf = record {
+  accepts = λ s n h l.
+      let len : at + length (x ++ y) ≡ at + length x + length y = simp length-append (omega arith) in
+      accepts-next kind at (length x) (run s m at n) _ b a its (rm .gives s n (holds-left s at x y h) (omega arith) tt)
+      (λ n′. rf .accepts s n′ (holds-right s at x y h) (omega arith));
+}
+
+pub reads-over : {A : Type 0} {at kind stream w : ℕ} {c : Passing} {e : Element A} {y : List Bool} {a : A} {its : List Item} (x : List Bool) → length x ≡ w
+    → ReadsAll (at + w) e y a its → ReadsAll at (over c kind stream w e) (x ++ y) a (item (passed c) kind stream at w ∷ its)
+unfolding walk overFit
+reads-over {at} {kind} {stream} {w} {c} {e} {y} {a} {its} x q r = record {
+  accepts = λ s n h l.
+      let len : at + length (x ++ y) ≡ at + w + length y = simp length-append (omega arith) in
+      let f : fit Open (8 * length s) (at + w) ≡ fits = fit-fits Open (8 * length s) (at + w) tt (omega arith) in
+      rw f (accepts-item (item (passed c) kind stream at w) _ a its (r .accepts s n (rw q at (holds-right s at x y h)) (omega arith)));
+}
+
+pub reads-spot : {A : Type 0} {at : ℕ} {b : List Bool} {a : A} {its : List Item} (f : ℕ → Element A) → ReadsAll at (f at) b a its → ReadsAll at (spot f) b a its
+unfolding walk
+reads-spot f r = record { accepts = r .accepts }
+
+-- packed into bytes
+pub packed-reads : {A : Type 0} (e : Element A) (b : List Bool) (a : A) (its : List Item) (n : ℕ) → ReadsAll 0 e b a its → length b ≡ 8 * n
+    → Accepts (read (pack n b) e) a its
+packed-reads e b a its n r l = r .accepts (pack n b) 0 (pack-holds n b l) (omega (arith, length-pack n b))
