@@ -82,6 +82,28 @@ module _ {A B : Type 0} {s : List ℕ} {m : Reading A} {at n : ℕ} (f : A → R
   pub off : {x : Refusal} → Comes s m at n (refusal x) → Comes s (m >>= f) at n (refusal x)
   off e = record { is = ap told (run-bind s f m at n) ∙ refused-told (run s m at n) _ (e .is) }
 
+-- the same where the answer of the step does not matter
+module _ {A B : Type 0} {s : List ℕ} {m : Reading A} {at n : ℕ} (k : Reading B) where
+  pub on-then : {a : A} {at′ n′ : ℕ} {o : Told B} → Comes s m at n (value a at′ n′) → Comes s k at′ n′ o → Comes s (m >> k) at n o
+  unfolding _>>_
+  on-then e h = on (λ _. k) e h
+
+  pub off-then : {x : Refusal} → Comes s m at n (refusal x) → Comes s (m >> k) at n (refusal x)
+  unfolding _>>_
+  off-then e = off (λ _. k) e
+
+-- two things that one reading comes to are one
+pub same-end : {A : Type 0} {s : List ℕ} {m : Reading A} {at n : ℕ} {o p : Told A} → Comes s m at n o → Comes s m at n p → o ≡ p
+same-end g h = sym (g .is) ∙ h .is
+
+-- in a loop: a reading comes to what it comes to, and what the whole comes to, the rest comes to
+pub itself : {A : Type 0} {s : List ℕ} {m : Reading A} {at n : ℕ} → Comes s m at n (told (run s m at n))
+itself = record { is = refl }
+
+pub goes-on : {A : Type 0} {s : List ℕ} {m : Reading A} (r : Reading A) {at n : ℕ} (at′ n′ : ℕ) {o : Told A}
+    → Comes s m at n (told (run s r at′ n′)) → Comes s m at n o → Comes s r at′ n′ o
+goes-on r at′ n′ g h = record { is = sym (g .is) ∙ h .is }
+
 -- a cursor that a reader may stand at leads to another
 pub steady : {A : Type 0} {s : List ℕ} {m : Reading A} {at n : ℕ} {a : A} {at′ n′ : ℕ} → Comes s m at n (value a at′ n′) → Sound s at n → Sound s at′ n′
 steady {s} {m} {at} {n} e h = let f = rw (gave-told (run s m at n) (e .is)) at (run-few s m at n (omega arith)) in omega arith

@@ -4,9 +4,10 @@ use mathlib.Core.List.{List}
 use Prim.Native.Nat.{ℕ}
 use Rattle.kernel.specs.declared.Fetched.{Fetched}
 use Rattle.kernel.specs.declared.Fetched.the-variants.{Value, Refused}
+use Rattle.kernel.specs.declared.Skipped.the-variants.{To, Refused as Short}
 use Rattle.kernel.specs.Reading.{Reading}
 use Rattle.kernel.specs.Element.{Element}
-use Rattle.kernel.specs.Claims.{BindRunsAsParts, PartsReadBack, ItemsTile, WidthsAddUp, EachBitInOneItem, CountIsBounded, SameAccepted, SameRefused, PackedReadsBack, FetchedOnce, PutOnce}
+use Rattle.kernel.specs.Claims.{BindRunsAsParts, PartsReadBack, ItemsTile, WidthsAddUp, EachBitInOneItem, CountIsBounded, SameAccepted, SameRefused, PackedReadsBack, FetchedOnce, SkippedOnce, PutOnce}
 use Rattle.kernel.proofs.Run.{run-bind}
 use Rattle.kernel.proofs.Map.{map-tiles, map-widths, map-once, map-few}
 use Rattle.kernel.proofs.Pair.{same-accepted, same-refused}
@@ -51,6 +52,15 @@ fetched-once (Value v c) (Value w d) e =
 fetched-once (Value v c) (Refused y) e = cc
 fetched-once (Refused x) (Value w d) e = cc
 fetched-once (Refused x) (Refused y) e = cc
+
+pub skipped-once : SkippedOnce
+skipped-once (To c) (To d) e =
+    let a : c .at ≡ d .at = cc in
+    let r : c .read ≡ d .read = cc in
+    λ i. To (record { at = a i; read = r i })
+skipped-once (To c) (Short y) e = cc
+skipped-once (Short x) (To d) e = cc
+skipped-once (Short x) (Short y) e = cc
 
 pub put-fixes-all : PutOnce
 put-fixes-all o at b o₁ o₂ t₁ t₂ h₁ h₂ p q = put-once h₁ h₂ p q

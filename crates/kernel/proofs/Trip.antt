@@ -1,20 +1,21 @@
 -- What is written reads back: a law for each step of a reading and of an element, and for one after another.
 use mathlib.Core.Path.{_≡_, refl, sym, subst}
-use mathlib.Core.Bool.{Bool}
+use mathlib.Core.Bool.{Bool, true, false, cond}
 use mathlib.Core.List.{List, [], _∷_, _++_, append-nil}
-use Prim.Native.Nat.{ℕ, _+_, _-_, _*_, _^_, _≤_, _<_, min}
-use native.Mathlib.Nat.{add-zero, add-sub-cancel-left}
+use Prim.Native.Nat.{ℕ, _+_, _-_, _*_, _%_, _^_, _≤_, _<_}
+use native.Mathlib.Nat.{add-zero, mod-lt}
 use native.Mathlib.Omega.{arith}
 use lib.ListN.{length, length-append}
+use lib.Pow.{pow-pos}
 use borrow.Author.Tests.{le-ltb, eq-eqb}
 use Rattle.kernel.specs.declared.Window.{Window}
 use Rattle.kernel.specs.declared.Window.the-variants.{Open, UpTo}
-use Rattle.kernel.specs.Bits.{valueAt, bitsOf, pack, Holds}
-use Rattle.kernel.specs.Reading.{Reading, give, fieldThen, passThen, hereThen, field, pass, here, _>>=_, _>>_, Outcome, gave, refused, fits, fit, onFit, run, after}
+use Rattle.kernel.specs.Bits.{bitsOf, pack, Holds}
+use Rattle.kernel.specs.Reading.{Reading, give, field, pass, here, choose, need, _>>=_, _>>_, Outcome, gave, refused, fits, fit, onFit, run, after}
 use Rattle.kernel.specs.Element.{Passing, fields, passed, Item, item, Element, done, part, over, spot, Answer, accepted, rejected, withItem, overFit, next, walk, read}
 use Rattle.kernel.specs.Trip.{InWindow, Gives, Reads, Accepts, ReadsAll}
 use Rattle.kernel.proofs.Run.{run-bind}
-use Rattle.kernel.proofs.Bits.{length-bitsOf}
+use Rattle.kernel.proofs.Bits.{length-bitsOf, bits-mod}
 use Rattle.kernel.proofs.Held.{holds-left, holds-right, holds-value, pack-holds, length-pack}
 
 fit-fits : (win : Window) (bits e : ℕ) → InWindow win e → e ≤ bits → fit win bits e ≡ fits
@@ -84,6 +85,54 @@ reads-then {win} {at} {m} {x} {c} f rm rf = subst (λ (z : List Bool). Reads win
 pub reads-window : {A : Type 0} {win : Window} {at : ℕ} {m : Reading A} {b : List Bool} {a : A} (inner : Window) → InWindow inner (at + length b)
     → Reads inner at m b a → Reads win at m b a
 reads-window inner i r = record { gives = λ s n h f _. r .gives s n h f i }
+
+pub reads-yes : {A : Type 0} {win : Window} {at : ℕ} {t : Bool} {x : Reading A} (y : Reading A) {b : List Bool} {a : A} → t ≡ true
+    → Reads win at x b a → Reads win at (choose t x y) b a
+unfolding choose
+reads-yes y e r = rw e r
+
+pub reads-no : {A : Type 0} {win : Window} {at : ℕ} {t : Bool} (x : Reading A) {y : Reading A} {b : List Bool} {a : A} → t ≡ false
+    → Reads win at y b a → Reads win at (choose t x y) b a
+unfolding choose
+reads-no x e r = rw e r
+
+pub reads-need : {A : Type 0} {win : Window} {at : ℕ} {t : Bool} {k : Reading A} {b : List Bool} {a : A} (m w : ℕ) → t ≡ true
+    → Reads win at k b a → Reads win at (need t m w >> k) b a
+unfolding need _>>=_ _>>_
+reads-need m w e r = rw e r
+
+pub reads-both : {A B : Type 0} {win : Window} {at : ℕ} {m : Reading A} {k : Reading B} {x y : List Bool} {a : A} {c : B}
+    → Reads win at m x a → Reads win (at + length x) k y c → Reads win at (m >> k) (x ++ y) c
+unfolding _>>_
+reads-both {k = k} r q = reads-bind (λ _. k) r q
+
+-- a bind of a field that is the last
+pub reads-last : {B : Type 0} {win : Window} {at : ℕ} {c : B} (w v : ℕ) (f : ℕ → Reading B) → v < 2 ^ w
+    → Reads win (at + w) (f v) [] c → Reads win at (field win w >>= f) (bitsOf w v) c
+reads-last {win = win} {at = at} {c = c} w v f hv r =
+    reads-then f (reads-field w v hv) (subst (λ (z : ℕ). Reads win z (f v) [] c) (let e : at + w ≡ at + length (bitsOf w v) = rw length-bitsOf in e) r)
+
+-- a field of w bits of a number
+pub reads-low : {B : Type 0} {win : Window} {at : ℕ} {y : List Bool} {c : B} (w v : ℕ) (f : ℕ → Reading B)
+    → Reads win (at + w) (f (v % 2 ^ w)) y c → Reads win at (field win w >>= f) (bitsOf w v ++ y) c
+reads-low w v f r = rw (← bits-mod w v) (reads-on w (v % 2 ^ w) f (mod-lt v (pow-pos w)) r)
+
+pub reads-low-last : {B : Type 0} {win : Window} {at : ℕ} {c : B} (w v : ℕ) (f : ℕ → Reading B)
+    → Reads win (at + w) (f (v % 2 ^ w)) [] c → Reads win at (field win w >>= f) (bitsOf w v) c
+reads-low-last w v f r = rw (← bits-mod w v) (reads-last w (v % 2 ^ w) f (mod-lt v (pow-pos w)) r)
+
+-- a bind whose first reading takes w bits
+pub reads-wide : {A B : Type 0} {win : Window} {at : ℕ} {m : Reading A} {x y : List Bool} {a : A} {c : B} (w : ℕ) (f : A → Reading B) → length x ≡ w
+    → Reads win at m x a → Reads win (at + w) (f a) y c → Reads win at (m >>= f) (x ++ y) c
+reads-wide {win = win} {at = at} {y = y} {a = a} {c = c} w f e rm rf =
+    reads-bind f rm (subst (λ (z : ℕ). Reads win (at + z) (f a) y c) (sym e) rf)
+
+-- a reading that is made only where the test holds
+pub reads-maybe : {A : Type 0} {win : Window} {at : ℕ} {m : Reading A} {x : List Bool} {a : A} (t : Bool) (d : A) → (t ≡ true → Reads win at m x a)
+    → (t ≡ false → a ≡ d) → Reads win at (choose t m (give d)) (cond t x []) a
+unfolding choose
+reads-maybe true d r e = r refl
+reads-maybe false d r e = rw (e refl) reads-give
 
 -- ---- the steps of an element
 

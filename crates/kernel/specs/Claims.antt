@@ -6,10 +6,11 @@ use Prim.Native.Nat.{ℕ, _+_, _*_, _≤_, _<_}
 use lib.ListN.{length}
 use Rattle.kernel.specs.declared.Window.{Window}
 use Rattle.kernel.specs.declared.Fetched.{Fetched}
+use Rattle.kernel.specs.declared.Skipped.{Skipped}
 use Rattle.kernel.specs.Bits.{bitAt, pack, Bytes, Put}
 use Rattle.kernel.specs.Reading.{Reading, _>>=_, Stop, Outcome, run, after}
 use Rattle.kernel.specs.Element.{Element, Item, Answer, accepted, rejected, read, itemsOf, countOf, Tiles, OneItem, InClosed, sumWidths, sumPassed}
-use Rattle.kernel.specs.Answer.{toldFetched}
+use Rattle.kernel.specs.Answer.{toldFetched, toldSkipped}
 use Rattle.kernel.specs.Trip.{Reads, Accepts, ReadsAll}
 
 module _ {A B : Type 0} (m : Reading A) (f : A → Reading B) where
@@ -59,6 +60,9 @@ PackedReadsBack {A} e = (b : List Bool) (a : A) (its : List Item) (n : ℕ) → 
 -- what a promise tells allows one answer, and one content of the bytes lent
 abbrev pub FetchedOnce : Type 0
 FetchedOnce = (x y : Fetched) → toldFetched x ≡ toldFetched y → x ≡ y
+
+abbrev pub SkippedOnce : Type 0
+SkippedOnce = (x y : Skipped) → toldSkipped x ≡ toldSkipped y → x ≡ y
 
 abbrev pub PutOnce : Type 0
 PutOnce = (o : List ℕ) (at : ℕ) (b : List Bool) (o₁ o₂ : List ℕ) (t₁ t₂ : ℕ) → Bytes o₁ → Bytes o₂ → Put o at b o₁ t₁ → Put o at b o₂ t₂ → (o₁ ≡ o₂) × (t₁ ≡ t₂)

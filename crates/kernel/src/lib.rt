@@ -3,9 +3,10 @@ ghost use mathlib.Core.Path.{_≡_};
 ghost use Prim.Native.Nat.{_+_, _*_, _%_, _^_, _≤_, min};
 ghost use lib.ListN.{length, take};
 ghost use lib.Seq.{sets};
+ghost use Rattle.kernel.specs.declared.Window.the-variants.{Open};
 ghost use Rattle.kernel.specs.Bits.{valueAt, bitsOf, unpack, Put};
-ghost use Rattle.kernel.specs.Reading.{passes, field, run, Sound};
-ghost use Rattle.kernel.specs.Answer.{told, toldFetched};
+ghost use Rattle.kernel.specs.Reading.{passes, field, pass, run, Sound};
+ghost use Rattle.kernel.specs.Answer.{told, toldFetched, whyFetched, toldSkipped};
 
 // Where a field must end: anywhere in the bytes, or by a bit before their end too.
 pub enum Window {
@@ -27,6 +28,11 @@ pub struct Refusal {
 
 pub enum Fetched {
     Value(u32, Cursor),
+    Refused(Refusal),
+}
+
+pub enum Skipped {
+    To(Cursor),
     Refused(Refusal),
 }
 
@@ -87,6 +93,41 @@ pub fn fetch(el: &[u8], win: Window, c: Cursor, width: usize) -> Fetched
             read: read + 1,
         },
     )
+}
+
+// The refusal of a fetch that was refused; of a value it is never asked.
+pub fn why(f: Fetched) -> Refusal
+    ensures { λ r. ⌜ r ≡ whyFetched f ⌝ }
+{
+    match f {
+        Fetched::Value(_, _) => Refusal {
+            number: 0,
+            place: 0,
+            read: 0,
+        },
+        Fetched::Refused(x) => x,
+    }
+}
+
+// width bits that are no field.
+pub fn skip(el: &[u8], c: Cursor, width: usize) -> Skipped
+    requires { ⌜ (width ≤ 1000000000000) × Sound (now el) (c .at) (c .read) ⌝ }
+    ensures { λ r. ⌜ toldSkipped r ≡ told (run (now (el .entry)) (pass Open width) (c .at) (c .read)) ⌝ }
+{
+    let at = c.at;
+    let read = c.read;
+    let end = at + width;
+    if 8 * el.len() < end {
+        return Skipped::Refused(Refusal {
+            number: 3,
+            place: at,
+            read: read,
+        });
+    }
+    Skipped::To(Cursor {
+        at: end,
+        read: read,
+    })
 }
 
 // Two to the power k.

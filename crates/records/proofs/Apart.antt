@@ -1,0 +1,197 @@
+-- What it says of a configuration, a stream and a record that it is valid: the tests taken apart.
+use mathlib.Core.Path.{_≡_, refl, ap, subst}
+use mathlib.Core.Bool.{Bool, true, false, cond, _&&_, _||_}
+use mathlib.Core.List.{List}
+use Prim.Native.Nat.{ℕ, zero, suc, _<_, _≤_}
+use native.Mathlib.Omega.{arith}
+use lib.Dec.{leb, ltb, eqb}
+use lib.ListN.{getD}
+use borrow.Author.Tests.{leb-true, eqb-true, le-leb, lt-leb, lt-ltb, le-ltb, ltb-true, ltb-false}
+use Rattle.records.specs.declared.Freq.{Freq}
+use Rattle.records.specs.declared.Freq.the-variants.{Index, Hz}
+use Rattle.records.specs.declared.Form.{Form}
+use Rattle.records.specs.declared.Form.the-variants.{None, Type5, Type29, Flag0, Flag1, FlagPs}
+use Rattle.records.specs.declared.Config.{Config}
+use Rattle.records.specs.declared.Stream.{Stream}
+use Rattle.records.specs.declared.Record.{Record}
+use Rattle.records.specs.Blank.{noStream}
+use Rattle.records.specs.Table.{streamsIn}
+use Rattle.records.specs.Valid.{validFreq, validForm, validConfig, validSlot, validStream, blankFreq, blankForm, blankStream}
+use Rattle.records.specs.Valid.{allOf, layersOk, streamsOk, headOk, tailOk, validOf}
+
+pub both : (a b : Bool) → (a && b) ≡ true → (a ≡ true) × (b ≡ true)
+both true b h = (refl, h)
+both false b h = (h, let z : false ≡ true = h in cc)
+
+pub three : (a b c : Bool) → (a && b && c) ≡ true → (a ≡ true) × (b ≡ true) × (c ≡ true)
+three a b c p = let q = both (a && b) c p in let r = both a b (q .0) in (r .0, r .1, q .1)
+
+pub five : (a b c d e : Bool) → (a && b && c && d && e) ≡ true → (a ≡ true) × (b ≡ true) × (c ≡ true) × (d ≡ true) × (e ≡ true)
+five a b c d e p = let q = three (a && b && c) d e p in let r = three a b c (q .0) in (r .0, r .1, r .2, q .1, q .2)
+
+pub either : (a b : Bool) → (a || b) ≡ true → a ≡ false → b ≡ true
+either true b h e = let z : true ≡ false = e in cc
+either false b h e = h
+
+last : (n : ℕ) (f : ℕ → Bool) {i : ℕ} → f n ≡ true → (i < n → f i ≡ true) → i < suc n → (t : Bool) → ltb i n ≡ t → f i ≡ true
+last n f {i} h g l true e = g (ltb-true i n e)
+last n f {i} h g l false e = let q : n ≡ i = omega (arith, ltb-false i n e) in subst (λ (k : ℕ). f k ≡ true) q h
+
+pub all-of : (n : ℕ) (f : ℕ → Bool) → allOf n f ≡ true → (i : ℕ) → i < n → f i ≡ true
+unfolding allOf
+all-of zero f h i l = absurd (omega arith)
+all-of (suc n) f h i l = last n f (both (allOf n f) (f n) h .1) (λ k. all-of n f (both (allOf n f) (f n) h .0) i k) l (ltb i n) refl
+
+-- ---- a configuration
+
+pub record ConfigOk (version : ℕ) (c : Config) : Type 0 where
+  pub core : (1 ≤ c .core) × (c .core ≤ 4)
+  pub channels : (1 ≤ c .channels) × (c .channels ≤ 7)
+  pub frame : c .frame ≤ 1
+  pub depends : c .depends ≡ 0
+  pub extension : c .extension ≡ 0
+  pub freq : validFreq (c .freq) ≡ true
+  pub form : validForm version (c .form) ≡ true
+
+pub config-ok : (version : ℕ) (c : Config) → validConfig version c ≡ true → ConfigOk version c
+config-ok version c p =
+    let u = leb 1 (c .core) && leb (c .core) 4 && leb 1 (c .channels) && leb (c .channels) 7 && leb (c .frame) 1 in
+    let q = five u (eqb (c .depends) 0) (eqb (c .extension) 0) (validFreq (c .freq)) (validForm version (c .form)) p in
+    let r = five (leb 1 (c .core)) (leb (c .core) 4) (leb 1 (c .channels)) (leb (c .channels) 7) (leb (c .frame) 1) (q .0) in
+    record {
+      core = (leb-true 1 (c .core) (r .0), leb-true (c .core) 4 (r .1));
+      channels = (leb-true 1 (c .channels) (r .2), leb-true (c .channels) 7 (r .3));
+      frame = leb-true (c .frame) 1 (r .4);
+      depends = eqb-true (c .depends) 0 (q .1);
+      extension = eqb-true (c .extension) 0 (q .2);
+      freq = q .3;
+      form = q .4;
+    }
+
+-- ---- a stream
+
+pub data SlotOk (kind fullness slot : ℕ) : Type 0 where
+  of-type-0 : kind ≡ 0 → fullness ≤ 255 → slot ≡ 0 → SlotOk kind fullness slot
+  of-type-1 : kind ≡ 1 → fullness ≡ 0 → slot ≤ 511 → SlotOk kind fullness slot
+
+slot-of : (kind fullness slot : ℕ) (t : Bool) → (eqb kind 0 && leb fullness 255 && eqb slot 0) ≡ t
+    → (t || (eqb kind 1 && eqb fullness 0 && leb slot 511)) ≡ true → SlotOk kind fullness slot
+slot-of kind fullness slot true e h =
+    let q = three (eqb kind 0) (leb fullness 255) (eqb slot 0) e in
+    of-type-0 (eqb-true kind 0 (q .0)) (leb-true fullness 255 (q .1)) (eqb-true slot 0 (q .2))
+slot-of kind fullness slot false e h =
+    let q = three (eqb kind 1) (eqb fullness 0) (leb slot 511) h in
+    of-type-1 (eqb-true kind 1 (q .0)) (eqb-true fullness 0 (q .1)) (leb-true slot 511 (q .2))
+
+pub slot-ok : (kind fullness slot : ℕ) → validSlot kind fullness slot ≡ true → SlotOk kind fullness slot
+slot-ok kind fullness slot h = slot-of kind fullness slot (eqb kind 0 && leb fullness 255 && eqb slot 0) refl h
+
+blank-freq : (x : Freq) → blankFreq x ≡ true → x ≡ Index 0
+blank-freq (Index i) h = ap Index (eqb-true i 0 h)
+blank-freq (Hz x) h = let z : false ≡ true = h in cc
+
+blank-form : (m : Form) → blankForm m ≡ true → m ≡ None
+blank-form None h = refl
+blank-form (Type5 x) h = let z : false ≡ true = h in cc
+blank-form (Type29 x) h = let z : false ≡ true = h in cc
+blank-form Flag0 h = let z : false ≡ true = h in cc
+blank-form (Flag1 x) h = let z : false ≡ true = h in cc
+blank-form (FlagPs x b) h = let z : false ≡ true = h in cc
+
+pub blank-ok : (s : Stream) → blankStream s ≡ true → s ≡ noStream
+blank-ok s p =
+    let c = s .config in
+    let u = eqb (c .core) 0 && eqb (c .channels) 0 && eqb (c .frame) 0 && eqb (c .depends) 0 && eqb (c .extension) 0 in
+    let q = five (u && eqb (s .kind) 0) (eqb (s .fullness) 0) (eqb (s .slot) 0) (blankFreq (c .freq)) (blankForm (c .form)) p in
+    let k = both u (eqb (s .kind) 0) (q .0) in
+    let r = five (eqb (c .core) 0) (eqb (c .channels) 0) (eqb (c .frame) 0) (eqb (c .depends) 0) (eqb (c .extension) 0) (k .0) in
+    let e₀ : c .core ≡ 0 = eqb-true (c .core) 0 (r .0) in
+    let e₁ : c .channels ≡ 0 = eqb-true (c .channels) 0 (r .1) in
+    let e₂ : c .frame ≡ 0 = eqb-true (c .frame) 0 (r .2) in
+    let e₃ : c .depends ≡ 0 = eqb-true (c .depends) 0 (r .3) in
+    let e₄ : c .extension ≡ 0 = eqb-true (c .extension) 0 (r .4) in
+    let e₅ : s .kind ≡ 0 = eqb-true (s .kind) 0 (k .1) in
+    let e₆ : s .fullness ≡ 0 = eqb-true (s .fullness) 0 (q .1) in
+    let e₇ : s .slot ≡ 0 = eqb-true (s .slot) 0 (q .2) in
+    let e₈ : c .freq ≡ Index 0 = blank-freq (c .freq) (q .3) in
+    let e₉ : c .form ≡ None = blank-form (c .form) (q .4) in
+    λ i. record {
+      config = record { core = e₀ i; freq = e₈ i; channels = e₁ i; frame = e₂ i; depends = e₃ i; extension = e₄ i; form = e₉ i };
+      kind = e₅ i;
+      fullness = e₆ i;
+      slot = e₇ i;
+    }
+
+-- ---- a record
+
+pub record RecordOk (r : Record) : Type 0 where
+  pub version : r .version ≤ 1
+  pub variant : r .variant ≡ 0
+  pub tara : (eqb (r .version) 1 ≡ false) → r .tara ≡ 0
+  pub framing : r .framing ≡ 1
+  pub subframes : r .subframes ≤ 63
+  pub programs : r .programs ≤ 15
+  pub other : r .other ≤ 1
+  pub bits : (eqb (r .other) 1 ≡ false) → r .bits ≡ 0
+  pub checked : r .checked ≤ 1
+  pub unchecked : (eqb (r .checked) 1 ≡ false) → r .crc ≡ 0
+  pub crc : r .crc ≤ 255
+  pub layers : (p : ℕ) → p ≤ r .programs → getD (r .layers) p 0 ≤ 7
+  pub no-layers : (p : ℕ) → r .programs < p → p < 16 → getD (r .layers) p 0 ≡ 0
+  pub count : streamsIn (r .layers) (r .programs) 16 ≤ 16
+  pub streams : (i : ℕ) → i < streamsIn (r .layers) (r .programs) 16 → validStream (r .version) (getD (r .streams) i noStream) ≡ true
+  pub no-streams : (i : ℕ) → streamsIn (r .layers) (r .programs) 16 ≤ i → i < 16 → getD (r .streams) i noStream ≡ noStream
+
+chosen-yes : (t a b : Bool) → cond t a b ≡ true → t ≡ true → a ≡ true
+chosen-yes t a b h e = rw e at h
+
+chosen-no : (t a b : Bool) → cond t a b ≡ true → t ≡ false → b ≡ true
+chosen-no t a b h e = rw e at h
+
+layers-sent : (ks : List ℕ) (n : ℕ) → layersOk ks n ≡ true → n ≤ 15 → (p : ℕ) → p ≤ n → getD ks p 0 ≤ 7
+layers-sent ks n h l p k =
+    leb-true (getD ks p 0) 7 (chosen-yes (leb p n) (leb (getD ks p 0) 7) (eqb (getD ks p 0) 0) (all-of 16 _ h p (omega arith)) (le-leb p n k))
+
+layers-not : (ks : List ℕ) (n : ℕ) → layersOk ks n ≡ true → (p : ℕ) → n < p → p < 16 → getD ks p 0 ≡ 0
+layers-not ks n h p k l =
+    eqb-true (getD ks p 0) 0 (chosen-no (leb p n) (leb (getD ks p 0) 7) (eqb (getD ks p 0) 0) (all-of 16 _ h p l) (lt-leb p n k))
+
+streams-sent : (v n : ℕ) (ss : List Stream) → streamsOk v n ss ≡ true → n ≤ 16 → (i : ℕ) → i < n → validStream v (getD ss i noStream) ≡ true
+streams-sent v n ss h l i k =
+    chosen-yes (ltb i n) (validStream v (getD ss i noStream)) (blankStream (getD ss i noStream)) (all-of 16 _ h i (omega arith)) (lt-ltb i n k)
+
+streams-not : (v n : ℕ) (ss : List Stream) → streamsOk v n ss ≡ true → (i : ℕ) → n ≤ i → i < 16 → getD ss i noStream ≡ noStream
+streams-not v n ss h i k l =
+    blank-ok (getD ss i noStream)
+    (chosen-no (ltb i n) (validStream v (getD ss i noStream)) (blankStream (getD ss i noStream)) (all-of 16 _ h i l) (le-ltb i n k))
+
+pub record-ok : (r : Record) → validOf r ≡ true → RecordOk r
+record-ok r h =
+    let n = streamsIn (r .layers) (r .programs) 16 in
+    let q = five (headOk r) (tailOk r) (layersOk (r .layers) (r .programs)) (leb n 16) (streamsOk (r .version) n (r .streams)) h in
+    let a = eqb (r .version) 1 || eqb (r .tara) 0 in
+    let b = eqb (r .other) 1 || eqb (r .bits) 0 in
+    let d = eqb (r .checked) 1 || eqb (r .crc) 0 in
+    let f = both (leb (r .version) 1 && eqb (r .variant) 0 && a && eqb (r .framing) 1 && leb (r .subframes) 63) (leb (r .programs) 15) (q .0) in
+    let g = five (leb (r .version) 1) (eqb (r .variant) 0) a (eqb (r .framing) 1) (leb (r .subframes) 63) (f .0) in
+    let t = five (leb (r .other) 1) b (leb (r .checked) 1) d (leb (r .crc) 255) (q .1) in
+    let few : r .programs ≤ 15 = leb-true (r .programs) 15 (f .1) in
+    let count : n ≤ 16 = leb-true n 16 (q .3) in
+    record {
+      version = leb-true (r .version) 1 (g .0);
+      variant = eqb-true (r .variant) 0 (g .1);
+      tara = λ e. eqb-true (r .tara) 0 (either (eqb (r .version) 1) (eqb (r .tara) 0) (g .2) e);
+      framing = eqb-true (r .framing) 1 (g .3);
+      subframes = leb-true (r .subframes) 63 (g .4);
+      programs = few;
+      other = leb-true (r .other) 1 (t .0);
+      bits = λ e. eqb-true (r .bits) 0 (either (eqb (r .other) 1) (eqb (r .bits) 0) (t .1) e);
+      checked = leb-true (r .checked) 1 (t .2);
+      unchecked = λ e. eqb-true (r .crc) 0 (either (eqb (r .checked) 1) (eqb (r .crc) 0) (t .3) e);
+      crc = leb-true (r .crc) 255 (t .4);
+      layers = layers-sent (r .layers) (r .programs) (q .2) few;
+      no-layers = layers-not (r .layers) (r .programs) (q .2);
+      count = count;
+      streams = streams-sent (r .version) n (r .streams) (q .4) count;
+      no-streams = streams-not (r .version) n (r .streams) (q .4);
+    }

@@ -1,0 +1,4 @@
+pub mod Same
+pub mod Tables
+pub mod Apart
+pub mod Theorems

@@ -1,0 +1,47 @@
+-- When two configurations are the same. A form is compared by its number, its frequency and its PS flag.
+use mathlib.Core.Bool.{Bool, false, _&&_}
+use Prim.Native.Nat.{ℕ}
+use lib.Dec.{eqb}
+use Rattle.records.specs.declared.Freq.{Freq}
+use Rattle.records.specs.declared.Freq.the-variants.{Index, Hz}
+use Rattle.records.specs.declared.Form.{Form}
+use Rattle.records.specs.declared.Form.the-variants.{None, Type5, Type29, Flag0, Flag1, FlagPs}
+use Rattle.records.specs.declared.Config.{Config}
+
+abbrev pub sameFreq : Freq → Freq → Bool
+sameFreq (Index i) (Index j) = eqb i j
+sameFreq (Index i) (Hz h) = false
+sameFreq (Hz h) (Index i) = false
+sameFreq (Hz g) (Hz h) = eqb g h
+
+abbrev pub formTag : Form → ℕ
+formTag None = 0
+formTag (Type5 x) = 1
+formTag (Type29 x) = 2
+formTag Flag0 = 3
+formTag (Flag1 x) = 4
+formTag (FlagPs x b) = 5
+
+abbrev pub formFreq : Form → Freq
+formFreq None = Index 0
+formFreq (Type5 x) = x
+formFreq (Type29 x) = x
+formFreq Flag0 = Index 0
+formFreq (Flag1 x) = x
+formFreq (FlagPs x b) = x
+
+abbrev pub formPs : Form → ℕ
+formPs None = 0
+formPs (Type5 x) = 0
+formPs (Type29 x) = 0
+formPs Flag0 = 0
+formPs (Flag1 x) = 0
+formPs (FlagPs x b) = b
+
+abbrev pub sameForm : Form → Form → Bool
+sameForm a b = eqb (formTag a) (formTag b) && eqb (formPs a) (formPs b) && sameFreq (formFreq a) (formFreq b)
+
+abbrev pub sameConfig : Config → Config → Bool
+sameConfig a b =
+    eqb (a .core) (b .core) && eqb (a .channels) (b .channels) && eqb (a .frame) (b .frame) && eqb (a .depends) (b .depends)
+    && eqb (a .extension) (b .extension) && sameFreq (a .freq) (b .freq) && sameForm (a .form) (b .form)
