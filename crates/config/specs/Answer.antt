@@ -9,7 +9,7 @@ use Rattle.asc.specs.declared.Configured.the-variants as configured
 use Rattle.records.specs.declared.Stream.{Stream}
 use Rattle.records.specs.declared.Record.{Record}
 use Rattle.records.specs.Blank.{noStream}
-use Rattle.records.specs.Table.{tableOf}
+use Rattle.records.specs.Table.{streamsIn, tableOf}
 use Rattle.config.specs.declared.Streamed.{Streamed}
 use Rattle.config.specs.declared.Streamed.the-variants as streamed
 use Rattle.config.specs.declared.Head.{Head}
@@ -41,9 +41,9 @@ abbrev pub toldHeaded : Headed → Told Head
 toldHeaded (headed.Value v c) = value v (c .at) (c .read)
 toldHeaded (headed.Refused x) = refusal x
 
--- a numProgram of four bits
+-- a numProgram of four bits, and a numSubFrames of six
 abbrev pub FewPrograms : Headed → Type 0
-FewPrograms (headed.Value h c) = h .programs ≤ 15
+FewPrograms (headed.Value h c) = (h .programs ≤ 15) × (h .subframes ≤ 63)
 FewPrograms (headed.Refused x) = Unit {0}
 
 abbrev pub whyHeaded : Headed → Refusal
@@ -92,6 +92,10 @@ toldPlaced r = toldVerdict (placesOf r) (r .verdict)
 
 abbrev pub toldMux : Mux → Told Record
 toldMux r = toldVerdict (r .held) (r .verdict)
+
+-- at most 64 subframes and 16 streams
+abbrev pub Few : Record → Type 0
+Few r = (r .subframes ≤ 63) × (streamsIn (r .layers) (r .programs) 16 ≤ 16)
 
 -- what stands beside a refusal
 abbrev pub noRecord : Record

@@ -8,10 +8,10 @@ ghost use Rattle.kernel.specs.Answer.{told, toldFetched, whySkipped};
 ghost use Rattle.kernel.specs.declared.Window.the-variants.{Open};
 ghost use Rattle.asc.specs.Values.{latmGetValue};
 ghost use Rattle.asc.specs.Answer.{toldConfigured};
-ghost use Rattle.records.specs.Table.{tableOf};
+ghost use Rattle.records.specs.Table.{streamsIn, tableOf};
 ghost use Rattle.config.specs.declared.Verdict.the-variants.{Refused};
 ghost use Rattle.config.specs.Mux.{windowed, configuration, frameLength, sentOrSame, layer, layers, programs, variantA, muxHead, otherLength, muxTail, streamMuxConfig, configAt, noPlaces, recordOf};
-ghost use Rattle.config.specs.Answer.{toldStreamed, toldHeaded, toldTailed, toldFilled, toldPlaced, toldMux, whyConfigured, whyStreamed, whyHeaded, whyTailed, whyVerdict, IfDone, IfRefused, tableAfter, FewPrograms, noRecord};
+ghost use Rattle.config.specs.Answer.{toldStreamed, toldHeaded, toldTailed, toldFilled, toldPlaced, toldMux, whyConfigured, whyStreamed, whyHeaded, whyTailed, whyVerdict, IfDone, IfRefused, tableAfter, Few, FewPrograms, noRecord};
 use asc::Configured;
 use asc::audio_specific_config;
 use asc::groups_of;
@@ -131,7 +131,7 @@ fn why_skipped(f: Skipped) -> Refusal
     }
 }
 
-fn why_verdict(v: Verdict) -> Refusal
+pub fn why_verdict(v: Verdict) -> Refusal
     ensures { λ r. ⌜ r ≡ whyVerdict v ⌝ }
 {
     match v {
@@ -313,6 +313,7 @@ fn programs_of(el: &[u8], version: u32, n: u32, c: Cursor, table: &mut [[u8; 8];
     requires { ⌜ (n ≤ 15) × Sound (now el) (c .at) (c .read) ⌝ }
     ensures told { λ r. ⌜ toldPlaced r ≡ told (run (now (el .entry)) (programs version (n + 1) 0 0 noPlaces) (c .at) (c .read)) ⌝ }
     ensures table { λ r. ⌜ IfDone (r .verdict) (now (table .exit) ≡ tableOf (r .layers) n) ⌝ }
+    ensures few { λ r. ⌜ IfDone (r .verdict) (streamsIn (r .layers) n 16 ≤ 16) ⌝ }
 {
     let none = [255; 8];
     *table = [none; 16];
@@ -599,6 +600,7 @@ pub fn stream_mux_config(el: &[u8], c: Cursor, table: &mut [[u8; 8]; 16]) -> Mux
     ensures told { λ r. ⌜ toldMux r ≡ told (run (now (el .entry)) streamMuxConfig (c .at) (c .read)) ⌝ }
     ensures blank { λ r. ⌜ IfRefused (r .verdict) (r .held ≡ noRecord) ⌝ }
     ensures table { λ r. ⌜ now (table .exit) ≡ tableAfter (r .verdict) (now (table .entry)) (r .held) ⌝ }
+    ensures few { λ r. ⌜ IfDone (r .verdict) (Few (r .held)) ⌝ }
 {
     let head = head_of(el, c);
     let Headed::Value(h, c1) = head else {

@@ -28,7 +28,7 @@ got t s m at n e p = record { is = sym e ∙ ap t p }
 pub apart : {A : Type 0} {x : Refusal} {a : A} {at n : ℕ} → refusal x ≡ value a at n → ⊥
 apart e = let z : _≡_ {A = ℕ} 0 1 = cc in omega arith
 
-gave-told : {A : Type 0} (o : Outcome A) {a : A} {at n : ℕ} → told o ≡ value a at n → o ≡ gave a at n
+pub gave-told : {A : Type 0} (o : Outcome A) {a : A} {at n : ℕ} → told o ≡ value a at n → o ≡ gave a at n
 gave-told (gave a′ at′ n′) e = cc
 gave-told (refused r) e = cc
 

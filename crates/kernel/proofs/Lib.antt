@@ -2,6 +2,7 @@ pub mod Run
 pub mod Map
 pub mod Pair
 pub mod Values
+pub mod Walk
 pub mod Chain
 pub mod Lists
 pub mod Bits

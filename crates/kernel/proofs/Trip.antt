@@ -12,8 +12,8 @@ use Rattle.kernel.specs.declared.Window.{Window}
 use Rattle.kernel.specs.declared.Window.the-variants.{Open, UpTo}
 use Rattle.kernel.specs.Bits.{bitsOf, pack, Holds}
 use Rattle.kernel.specs.Reading.{Reading, give, field, pass, here, choose, need, _>>=_, _>>_, Outcome, gave, refused, fits, fit, onFit, run, after}
-use Rattle.kernel.specs.Element.{Passing, fields, passed, Item, item, Element, done, part, over, spot, Answer, accepted, rejected, withItem, overFit, next, walk, read}
-use Rattle.kernel.specs.Trip.{InWindow, Gives, Reads, Accepts, ReadsAll}
+use Rattle.kernel.specs.Element.{Passing, fields, passed, Item, item, Element, done, part, over, spot, Passage, came, fell, withItem, overFit, next, walk, Answer, accepted, rejected, ended, read}
+use Rattle.kernel.specs.Trip.{InWindow, Gives, Reads, CameTo, Accepts, ReadsAll}
 use Rattle.kernel.proofs.Run.{run-bind}
 use Rattle.kernel.proofs.Bits.{length-bitsOf, bits-mod}
 use Rattle.kernel.proofs.Held.{holds-left, holds-right, holds-value, pack-holds, length-pack}
@@ -136,48 +136,54 @@ reads-maybe false d r e = rw (e refl) reads-give
 
 -- ---- the steps of an element
 
-accepts-item : {A : Type 0} (it : Item) (x : Answer A) (a : A) (its : List Item) → Accepts x a its → Accepts (withItem it x) a (it ∷ its)
+comes-item : {A : Type 0} (it : Item) (x : Passage A) (a : A) (its : List Item) (p : ℕ) → CameTo x a its p → CameTo (withItem it x) a (it ∷ its) p
 unfolding withItem
-accepts-item it (accepted a′ its′ n) a its h = (h .0, rw (h .1))
-accepts-item it (rejected r its′) a its h = absurd h
+comes-item it (came a′ its′ p′ n) a its p h = (h .0, rw (h .1), h .2)
+comes-item it (fell r its′) a its p h = absurd h
 
-accepts-next : {A B : Type 0} (kind at w : ℕ) (o : Outcome B) (f : B → ℕ → ℕ → Answer A) (b : B) (a : A) (its : List Item) → Gives o b (at + w)
-    → ((n : ℕ) → Accepts (f b (at + w) n) a its) → Accepts (next kind at o f) a (item fields kind 0 at w ∷ its)
+comes-next : {A B : Type 0} (kind at w : ℕ) (o : Outcome B) (f : B → ℕ → ℕ → Passage A) (b : B) (a : A) (its : List Item) (p : ℕ) → Gives o b (at + w)
+    → ((n : ℕ) → CameTo (f b (at + w) n) a its p) → CameTo (next kind at o f) a (item fields kind 0 at w ∷ its) p
 unfolding next
-accepts-next kind at w (gave b′ p n) f b a its g h =
+comes-next kind at w (gave b′ q n) f b a its p g h =
     let e : at + w - at ≡ w = omega arith in
-    rw (g .0, g .1, e) (accepts-item (item fields kind 0 at w) (f b (at + w) n) a its (h n))
-accepts-next kind at w (refused r) f b a its g h = absurd g
+    rw (g .0, g .1, e) (comes-item (item fields kind 0 at w) (f b (at + w) n) a its p (h n))
+comes-next kind at w (refused r) f b a its p g h = absurd g
 
 pub reads-done : {A : Type 0} {at : ℕ} {a : A} → ReadsAll at (done a) [] a []
 unfolding walk
-reads-done {at} = record { accepts = λ s n h l. rw (eq-eqb at (8 * length s) (omega arith)) (refl, refl) }
+reads-done {at} = record { comes = λ s n h l. (refl, refl, sym (add-zero at)) }
 
 pub reads-part : {A B : Type 0} {at kind : ℕ} {m : Reading B} {x y : List Bool} {b : B} {a : A} {its : List Item} (f : B → Element A)
     → Reads Open at m x b → ReadsAll (at + length x) (f b) y a its → ReadsAll at (part B kind m f) (x ++ y) a (item fields kind 0 at (length x) ∷ its)
 unfolding walk
 reads-part {at} {kind} {m} {x} {y} {b} {a} {its} f rm rf = record {
-  accepts = λ s n h l.
+  comes = λ s n h l.
       let len : at + length (x ++ y) ≡ at + length x + length y = simp length-append (omega arith) in
-      accepts-next kind at (length x) (run s m at n) _ b a its (rm .gives s n (holds-left s at x y h) (omega arith) tt)
-      (λ n′. rf .accepts s n′ (holds-right s at x y h) (omega arith));
+      rw len (comes-next kind at (length x) (run s m at n) _ b a its (at + length x + length y) (rm .gives s n (holds-left s at x y h) (omega arith) tt)
+      (λ n′. rf .comes s n′ (holds-right s at x y h) (omega arith)));
 }
 
 pub reads-over : {A : Type 0} {at kind stream w : ℕ} {c : Passing} {e : Element A} {y : List Bool} {a : A} {its : List Item} (x : List Bool) → length x ≡ w
     → ReadsAll (at + w) e y a its → ReadsAll at (over c kind stream w e) (x ++ y) a (item (passed c) kind stream at w ∷ its)
 unfolding walk overFit
 reads-over {at} {kind} {stream} {w} {c} {e} {y} {a} {its} x q r = record {
-  accepts = λ s n h l.
+  comes = λ s n h l.
       let len : at + length (x ++ y) ≡ at + w + length y = simp length-append (omega arith) in
       let f : fit Open (8 * length s) (at + w) ≡ fits = fit-fits Open (8 * length s) (at + w) tt (omega arith) in
-      rw f (accepts-item (item (passed c) kind stream at w) _ a its (r .accepts s n (rw q at (holds-right s at x y h)) (omega arith)));
+      rw (f, len) (comes-item (item (passed c) kind stream at w) _ a its (at + w + length y) (r .comes s n (rw q at (holds-right s at x y h)) (omega arith)));
 }
 
 pub reads-spot : {A : Type 0} {at : ℕ} {b : List Bool} {a : A} {its : List Item} (f : ℕ → Element A) → ReadsAll at (f at) b a its → ReadsAll at (spot f) b a its
 unfolding walk
-reads-spot f r = record { accepts = r .accepts }
+reads-spot f r = record { comes = r .comes }
+
+accepts-end : {A : Type 0} (bits : ℕ) (x : Passage A) (a : A) (its : List Item) → CameTo x a its bits → Accepts (ended bits x) a its
+accepts-end bits (came a′ its′ p n) a its h = rw (eq-eqb p bits (h .2)) (h .0, h .1)
+accepts-end bits (fell r its′) a its h = absurd h
 
 -- packed into bytes
 pub packed-reads : {A : Type 0} (e : Element A) (b : List Bool) (a : A) (its : List Item) (n : ℕ) → ReadsAll 0 e b a its → length b ≡ 8 * n
     → Accepts (read (pack n b) e) a its
-packed-reads e b a its n r l = r .accepts (pack n b) 0 (pack-holds n b l) (omega (arith, length-pack n b))
+packed-reads e b a its n r l =
+    let q : 0 + length b ≡ 8 * length (pack n b) = omega (arith, length-pack n b) in
+    accepts-end (8 * length (pack n b)) (walk (pack n b) e 0 0) a its (rw q at (r .comes (pack n b) 0 (pack-holds n b l) (omega arith)))

@@ -219,7 +219,10 @@ returns-8 c =
           (holds _ _ (eq-eqb _ 1 (p4 .before .before .before .if1 .left)) (on _ (got toldFetched _ _ _ _ (p4 .before .before .fetch3 .ensures) (p4 .f .given .1))
           (on _ (got toldFetched _ _ _ _ (p5 .before .before .fetch4 .ensures) (p5 .g .given .1))
           (gives)))))))),
-      (let n = took _ 4 (got toldFetched _ _ _ _ (p5 .before .before .fetch4 .ensures) (p5 .g .given .1)) .narrow in omega arith),
+      (
+        (let n = took _ 4 (got toldFetched _ _ _ _ (p5 .before .before .fetch4 .ensures) (p5 .g .given .1)) .narrow in omega arith),
+        (let n = took _ 6 (got toldFetched _ _ _ _ (p4 .before .before .fetch3 .ensures) (p4 .f .given .1)) .narrow in omega arith),
+      ),
     )
 
 pub head-of-spec : {M : Type 1} → statement M

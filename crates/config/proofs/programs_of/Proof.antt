@@ -18,7 +18,7 @@ use Rattle.kernel.specs.declared.Fetched.the-variants.{Value}
 use Rattle.kernel.specs.Lists.{tab}
 use Rattle.kernel.proofs.Lists.{tab-none}
 use Rattle.records.specs.Table.{streamsIn, rowAt}
-use Rattle.records.proofs.Tables.{streams-more, table-end}
+use Rattle.records.proofs.Tables.{streams-more, streams-end, table-end}
 use Rattle.config.specs.declared.Verdict.the-variants.{Done}
 use Rattle.config.proofs.Turns.{programs-done, programs-stop, programs-full, programs-cut, programs-turn, row-stored}
 use Rattle.config.proofs.programs_of.Statement.{statement}
@@ -64,7 +64,7 @@ returns c =
     let l = d .before .before .before .before in (
       ap refusal (c .why .ensures ∙ ap whyFetched q)
           ∙ same-end (programs-stop _ (l .loop .left) (l .loop .p) (l .loop .next) _ (omega arith) (got toldFetched _ _ _ _ (d .before .before .fetch .ensures) q)) (l .loop .inv .6),
-      tt,
+      (tt, tt),
     )
 
 cast-count : tie.Need-cast-count Inv-loop μ-loop
@@ -81,7 +81,7 @@ returns-2 c =
     let f = c .before .before in
     let l = f .before .before .before .before in
     let h : 16 < l .loop .next + (f .three .given .0 .0 + 1) = c .if1 .taken in
-    (same-end (programs-full _ (l .loop .left) (l .loop .p) (l .loop .next) _ (omega arith) (first f) (lt-leb _ 16 h)) (l .loop .inv .6), tt)
+    (same-end (programs-full _ (l .loop .left) (l .loop .p) (l .loop .next) _ (omega arith) (first f) (lt-leb _ 16 h)) (l .loop .inv .6), (tt, tt))
 
 add-layers-of : tie.Need-add-layers-of Inv-loop μ-loop
 add-layers-of c = omega (arith, took _ 3 (first (c .before .before)) .narrow)
@@ -111,7 +111,7 @@ returns-3 c =
       ap refusal (c .why-verdict .ensures ∙ ap whyVerdict q)
           ∙ same-end (programs-cut _ (l .loop .left) (l .loop .p) (l .loop .next) _ (omega arith) (first f) (le-leb _ 16 h)
           (got (toldVerdict (d .before .before .layers-of .result .streams)) _ _ _ _ (d .before .before .layers-of .ensures) q)) (l .loop .inv .6),
-      tt,
+      (tt, tt),
     )
 
 mul-layers : tie.Need-mul-layers Inv-loop μ-loop
@@ -167,7 +167,7 @@ returns-4 c =
     let n : ℕ = l .before .before .before .before .args .n in
     let e : l .loop .p ≡ n + 1 = omega arith in (
       same-end (programs-done _ (l .loop .left) (l .loop .p) (l .loop .next) _ (omega arith)) (l .loop .inv .6),
-      rw e at (l .loop .inv .5) ∙ table-end (l .loop .layers) n (omega arith),
+      (rw e at (l .loop .inv .5) ∙ table-end (l .loop .layers) n (omega arith), rw (streams-end (l .loop .layers) n (omega arith)) (let f = rw e at (l .loop .inv .4) in omega arith)),
     )
 
 pub programs-of-spec : {M : Type 1} → statement M

@@ -9,7 +9,7 @@ use Rattle.kernel.specs.Answer.{refusal}
 use Rattle.kernel.specs.Reading.{Sound}
 use Rattle.kernel.proofs.Chain.{got, so, gives, on, off, steady}
 use Rattle.config.specs.Mux.{streamMuxConfig}
-use Rattle.config.specs.Answer.{toldHeaded, toldTailed, toldMux, toldVerdict, whyVerdict, IfRefused, tableAfter, noRecord, placesOf, whyHeaded, whyTailed}
+use Rattle.config.specs.Answer.{toldHeaded, toldTailed, toldMux, toldVerdict, IfDone, whyVerdict, IfRefused, tableAfter, Few, noRecord, placesOf, whyHeaded, whyTailed}
 use Rattle.kernel.specs.declared.Refusal.{Refusal}
 use Rattle.kernel.specs.Answer.{Told}
 use Rattle.records.specs.declared.Record.{Record}
@@ -20,8 +20,8 @@ use Rattle.config.proofs.stream_mux_config.Tie as tie
 
 -- what is said of a refusal: nothing is held, and the table is as it was
 refusing : (r : Mux) (x : Refusal) (t : List (List ℕ)) (o : Told Record) → r .verdict ≡ Refused x → r .held ≡ noRecord → refusal x ≡ o
-    → (toldMux r ≡ o) × (IfRefused (r .verdict) (r .held ≡ noRecord) × (t ≡ tableAfter (r .verdict) t (r .held)))
-refusing r x t o e h q = rw e (q, (h, refl))
+    → (toldMux r ≡ o) × (IfRefused (r .verdict) (r .held ≡ noRecord) × ((t ≡ tableAfter (r .verdict) t (r .held)) × IfDone (r .verdict) (Few (r .held))))
+refusing r x t o e h q = rw e (q, (h, (refl, tt)))
 
 kept : (f : tie.After-head) → Sound (now (f .before .before .before .before .args .el)) (f .head .given .0 .1 .0 .at) (f .head .given .0 .1 .0 .read)
 kept f = steady (got toldHeaded _ _ _ _ (f .before .before .head-of .ensures .0) (f .head .given .1)) (omega arith)
@@ -52,7 +52,7 @@ returns c =
 programs-of-requires : tie.Need-programs-of-requires
 programs-of-requires c κs =
     let f = c .before .before in
-    (rw (f .head .given .1) at (f .before .before .head-of .ensures .1), kept f)
+    ((rw (f .head .given .1) at (f .before .before .head-of .ensures .1)) .0, kept f)
 
 enum-known-v : tie.Need-enum-known-v
 enum-known-v c = search needs
@@ -123,11 +123,12 @@ returns-4 c =
     let p = v .before .before in
     let f = p .before .before .before in
     let done = rw (v .v .given .1) at (p .programs-of .ensures .1) in
+    let few = rw (f .head .given .1) at (f .before .before .head-of .ensures .1) in
     rw (c .record-of .ensures) (
       so (on _ (got toldHeaded _ _ _ _ (f .before .before .head-of .ensures .0) (f .head .given .1))
           (on _ (got (toldVerdict (placesOf (p .programs-of .result))) _ _ _ _ (p .programs-of .ensures .0) (v .v .given .1))
           (on _ (got toldTailed _ _ _ _ (t .before .before .tail-of .ensures) (t .tail .given .1)) gives))),
-      (tt, done),
+      (tt, (done .0, (few .1, done .1))),
     )
 
 pub stream-mux-config-spec : {M : Type 1} → statement M

@@ -1,0 +1,29 @@
+-- The worked cases come out, by computation.
+use mathlib.Core.Path.{refl}
+use Rattle.kernel.specs.Bits.{bitAt, valueAt}
+use Rattle.kernel.specs.Reading.{_>>=_, _>>_, field, pass, here, choose, need, fit, onFit, run}
+use Rattle.kernel.specs.Element.{withItem, overFit, next, walk, follow}
+use Rattle.kernel.specs.Lists.{tab}
+use Rattle.records.specs.Table.{streamsIn, tableOf}
+use Rattle.records.specs.Valid.{allOf}
+use Rattle.asc.specs.Values.{bytesFrom, latmGetValue}
+use Rattle.asc.specs.Asc.{objectType, anyType, frequency, channelConfiguration, unset, psExtension, psTail, sbrExtension, extensionType, syncExtension, tail, gaSpecificConfig, alone, audioSpecificConfig}
+use Rattle.config.specs.Mux.{windowed, configuration, frameLength, layer, layers, programs, muxHead, muxTail, streamMuxConfig}
+use Rattle.element.specs.Mux.{slotFrom, slotOf, payloadLengthInfo, payloadMux, subframe, subframes, otherData, byteAlignment, body, applied, useSameStreamMux, afterFlag, audioMuxElement, rest}
+use Rattle.element.specs.Reply.{answer, numbers}
+use Rattle.element.specs.Worked.{AllComeOut, table, Worked}
+
+infixr 10 _&_
+_&_ : {A B : Type 0} → A → B → A × B
+a & b = (a, b)
+
+pub worked : Worked
+unfolding AllComeOut table answer numbers audioMuxElement afterFlag useSameStreamMux applied rest byteAlignment otherData subframes subframe payloadMux
+    payloadLengthInfo slotOf slotFrom streamMuxConfig muxTail muxHead programs layers layer frameLength configuration windowed
+    audioSpecificConfig alone gaSpecificConfig tail syncExtension extensionType sbrExtension psTail psExtension unset channelConfiguration
+    frequency anyType objectType latmGetValue bytesFrom allOf tableOf streamsIn tab follow walk next overFit withItem run onFit fit need choose here
+    pass field _>>=_ _>>_ valueAt bitAt
+worked =
+    (refl, refl) & refl & refl & (refl, refl) & (refl, refl) & (refl, refl) & (refl, refl) & refl
+    & (refl, refl, refl, refl, refl) & (refl, refl) & (refl, refl, refl, refl, refl) & (refl, refl)
+    & (refl, refl, refl, refl, refl) & (refl, refl, refl, refl, refl) & tt

@@ -1,0 +1,63 @@
+-- `element::read` meets its contract.
+use mathlib.Core.Path.{ap, sym, _∙_}
+use native.Mathlib.Omega.{arith}
+use lib.ListN.{length}
+use borrow.Author.Needs.{needs}
+use Rattle.element.specs.Reply.{mapAfter, replyWith}
+use Rattle.element.proofs.Whole.{map-small, length-none, length-over, length-right}
+use Rattle.element.proofs.read.Statement.{statement}
+use Rattle.element.proofs.read.Tie as tie
+
+refused-unread-requires : tie.Need-refused-unread-requires
+refused-unread-requires c κs = search needs
+
+returns : tie.Need-returns
+returns c =
+    let a = c .before .before .before .before .args in
+    let q = map-small (a .el .now) (a .held) (length (a .map .now)) (omega arith) in
+    (c .refused-unread .ensures ∙ ap (replyWith (a .held)) (sym q), ap (mapAfter (a .map .now)) (sym q))
+
+refused-unread-requires-2 : tie.Need-refused-unread-requires-2
+refused-unread-requires-2 c κs = search needs
+
+returns-2 : tie.Need-returns-2
+returns-2 c =
+    let a = c .before .before .before .before .before .args in
+    let q = length-none (a .el .now) (a .held) (length (a .map .now)) (omega arith) (omega arith) in
+    (c .refused-unread2 .ensures ∙ ap (replyWith (a .held)) (sym q), ap (mapAfter (a .map .now)) (sym q))
+
+refused-unread-requires-3 : tie.Need-refused-unread-requires-3
+refused-unread-requires-3 c κs = search needs
+
+returns-3 : tie.Need-returns-3
+returns-3 c =
+    let a = c .before .before .before .before .before .before .args in
+    let q = length-over (a .el .now) (a .held) (length (a .map .now)) (omega arith) (λ z. omega arith) (omega arith) in
+    (c .refused-unread3 .ensures ∙ ap (replyWith (a .held)) (sym q), ap (mapAfter (a .map .now)) (sym q))
+
+element-of-requires : tie.Need-element-of-requires
+element-of-requires c κs = search needs
+
+same-length : tie.Need-same-length
+same-length c = search needs
+
+returns-4 : tie.Need-returns-4
+returns-4 c =
+    let f = c .before .before in
+    let a = f .before .before .before .before .before .before .before .args in
+    let q = length-right (a .el .now) (a .held) (length (a .map .now)) (omega arith) (λ z. omega arith) (omega arith) in
+    (f .element-of .ensures .0 ∙ ap (replyWith (a .held)) (sym q), f .element-of .ensures .1 ∙ ap (mapAfter (a .map .now)) (sym q))
+
+pub read-spec : {M : Type 1} → statement M
+read-spec =
+    tie.close
+    (tie.spec
+    refused-unread-requires
+    returns
+    refused-unread-requires-2
+    returns-2
+    refused-unread-requires-3
+    returns-3
+    element-of-requires
+    same-length
+    returns-4)
