@@ -13,6 +13,7 @@ use Rattle.kernel.specs.Bits.{bitsOf, _⧺_}
 use Rattle.kernel.specs.Reading.{Reading, choose, _>>=_}
 use Rattle.kernel.specs.Trip.{Reads}
 use Rattle.kernel.proofs.Bits.{length-bitsOf}
+use Rattle.kernel.proofs.Tests.{both, three}
 use Rattle.kernel.proofs.Trip.{reads-give, reads-here, reads-bind, reads-on, reads-then, reads-yes, reads-no, reads-need, reads-last, reads-wide}
 use Rattle.records.specs.declared.Freq.{Freq}
 use Rattle.records.specs.declared.Freq.the-variants.{Index, Hz}
@@ -24,7 +25,7 @@ use Rattle.asc.specs.declared.Flags.{Flags}
 use Rattle.asc.specs.Asc.{isCore, isFront, objectType, anyType, hertz, frequency, freqBits, channelConfiguration, unset, left}
 use Rattle.asc.specs.Asc.{psExtension, psTail, sbrExtension, extensionType, syncExtension, tail, tailBits}
 use Rattle.asc.specs.Asc.{inFront, gaSpecificConfig, configOf, alone, underFront, audioSpecificConfig, frontBits, underBits, ascBits}
-use Rattle.records.proofs.Apart.{both, three, ConfigOk, config-ok}
+use Rattle.records.proofs.Apart.{ConfigOk, config-ok}
 
 -- ---- the fields
 

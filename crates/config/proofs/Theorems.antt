@@ -2,9 +2,10 @@
 use mathlib.Core.Path.{_≡_, ap, sym, _∙_}
 use Rattle.kernel.proofs.Chain.{apart}
 use Rattle.records.specs.declared.Record.{Record}
+use Rattle.records.specs.Blank.{noRecord}
 use Rattle.config.specs.declared.Verdict.{Verdict}
 use Rattle.config.specs.declared.Verdict.the-variants.{Done, Refused}
-use Rattle.config.specs.Answer.{toldVerdict, IfRefused, tableAfter, noRecord}
+use Rattle.config.specs.Answer.{toldVerdict, IfRefused, tableAfter}
 use Rattle.config.specs.Claims.{WindowedReadsBack, RecordReadsBack, MuxOnce}
 use Rattle.config.proofs.TripMux.{windowed-trip, record-trip}
 

@@ -13,6 +13,7 @@ use Rattle.kernel.specs.declared.Window.the-variants.{Open, UpTo}
 use Rattle.kernel.specs.Bits.{bitsOf}
 use Rattle.kernel.specs.Reading.{give, pass, here, choose, _>>=_, _>>_}
 use Rattle.kernel.specs.Trip.{Reads}
+use Rattle.kernel.proofs.Tests.{both}
 use Rattle.kernel.proofs.Trip.{reads-give, reads-here, reads-field, reads-pass, reads-bind, reads-on, reads-then, reads-window, reads-yes, reads-no, reads-need, reads-both, reads-last, reads-maybe}
 use Rattle.records.specs.declared.Config.{Config}
 use Rattle.records.specs.declared.Stream.{Stream}
@@ -29,7 +30,7 @@ use Rattle.asc.specs.Asc.{audioSpecificConfig, ascBits}
 use Rattle.config.specs.Mux.{windowed, configuration, configBits, frameLength, frameLengthBits, sentOrSame, layer, layerBits, configAt}
 use Rattle.config.specs.Mux.{layers, layersBits, programs, programsBits}
 use Rattle.config.specs.Mux.{variantA, muxHead, muxHeadBits, otherLength, muxTail, muxTailBits, noPlaces, streamMuxConfig, muxBits}
-use Rattle.records.proofs.Apart.{both, SlotOk, of-type-0, of-type-1, slot-ok, RecordOk, record-ok}
+use Rattle.records.proofs.Apart.{SlotOk, of-type-0, of-type-1, slot-ok, RecordOk, record-ok}
 use Rattle.records.proofs.Theorems.{same-means-equal}
 use Rattle.config.proofs.Begun.{begun, begun-more, begun-last, begun-all}
 use Rattle.asc.proofs.TripValues.{value-trip, groups-trip}

@@ -1,14 +1,12 @@
 -- What the answers of the readers of StreamMuxConfig tell.
 use mathlib.Core.List.{List}
 use Prim.Native.Nat.{ℕ, _≤_}
-use lib.ListN.{replicate}
 use Rattle.kernel.specs.declared.Refusal.{Refusal}
 use Rattle.kernel.specs.Answer.{Told, value, refusal, nothing}
 use Rattle.asc.specs.declared.Configured.{Configured}
 use Rattle.asc.specs.declared.Configured.the-variants as configured
 use Rattle.records.specs.declared.Stream.{Stream}
 use Rattle.records.specs.declared.Record.{Record}
-use Rattle.records.specs.Blank.{noStream}
 use Rattle.records.specs.Table.{streamsIn, tableOf}
 use Rattle.config.specs.declared.Streamed.{Streamed}
 use Rattle.config.specs.declared.Streamed.the-variants as streamed
@@ -96,20 +94,3 @@ toldMux r = toldVerdict (r .held) (r .verdict)
 -- at most 64 subframes and 16 streams
 abbrev pub Few : Record → Type 0
 Few r = (r .subframes ≤ 63) × (streamsIn (r .layers) (r .programs) 16 ≤ 16)
-
--- what stands beside a refusal
-abbrev pub noRecord : Record
-noRecord = record {
-  version = 0;
-  variant = 0;
-  tara = 0;
-  framing = 0;
-  subframes = 0;
-  programs = 0;
-  layers = replicate 16 0;
-  streams = replicate 16 noStream;
-  other = 0;
-  bits = 0;
-  checked = 0;
-  crc = 0;
-}

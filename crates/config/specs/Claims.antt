@@ -8,10 +8,11 @@ use Rattle.kernel.specs.declared.Window.the-variants.{Open}
 use Rattle.kernel.specs.Trip.{Reads}
 use Rattle.records.specs.declared.Config.{Config}
 use Rattle.records.specs.declared.Record.{Record}
+use Rattle.records.specs.Blank.{noRecord}
 use Rattle.records.specs.Valid.{validConfig, validOf}
 use Rattle.config.specs.declared.Mux.{Mux}
 use Rattle.config.specs.Mux.{windowed, configBits, streamMuxConfig, muxBits}
-use Rattle.config.specs.Answer.{toldMux, IfRefused, tableAfter, noRecord}
+use Rattle.config.specs.Answer.{toldMux, IfRefused, tableAfter}
 
 -- a valid configuration reads back behind its ascLen
 abbrev pub WindowedReadsBack : Type 0

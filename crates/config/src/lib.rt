@@ -8,10 +8,11 @@ ghost use Rattle.kernel.specs.Answer.{told, toldFetched, whySkipped};
 ghost use Rattle.kernel.specs.declared.Window.the-variants.{Open};
 ghost use Rattle.asc.specs.Values.{latmGetValue};
 ghost use Rattle.asc.specs.Answer.{toldConfigured};
+ghost use Rattle.records.specs.Blank.{noRecord};
 ghost use Rattle.records.specs.Table.{streamsIn, tableOf};
 ghost use Rattle.config.specs.declared.Verdict.the-variants.{Refused};
 ghost use Rattle.config.specs.Mux.{windowed, configuration, frameLength, sentOrSame, layer, layers, programs, variantA, muxHead, otherLength, muxTail, streamMuxConfig, configAt, noPlaces, recordOf};
-ghost use Rattle.config.specs.Answer.{toldStreamed, toldHeaded, toldTailed, toldFilled, toldPlaced, toldMux, whyConfigured, whyStreamed, whyHeaded, whyTailed, whyVerdict, IfDone, IfRefused, tableAfter, Few, FewPrograms, noRecord};
+ghost use Rattle.config.specs.Answer.{toldStreamed, toldHeaded, toldTailed, toldFilled, toldPlaced, toldMux, whyConfigured, whyStreamed, whyHeaded, whyTailed, whyVerdict, IfDone, IfRefused, tableAfter, Few, FewPrograms};
 use asc::Configured;
 use asc::audio_specific_config;
 use asc::groups_of;
@@ -28,6 +29,7 @@ use kernel::why;
 use records::Config;
 use records::Record;
 use records::Stream;
+use records::no_record;
 use records::no_stream;
 use records::row_from;
 
@@ -554,24 +556,10 @@ fn why_tailed(f: Tailed) -> Refusal
 fn refused_mux(x: Refusal) -> Mux
     ensures { λ r. ⌜ (r .verdict ≡ Refused x) × (r .held ≡ noRecord) ⌝ }
 {
-    let blank = no_stream();
-    let held = Record {
-        version: 0,
-        variant: 0,
-        tara: 0,
-        framing: 0,
-        subframes: 0,
-        programs: 0,
-        layers: [0; 16],
-        streams: [blank; 16],
-        other: 0,
-        bits: 0,
-        checked: 0,
-        crc: 0,
-    };
+    let blank = no_record();
     Mux {
         verdict: Verdict::Refused(x),
-        held: held,
+        held: blank,
     }
 }
 

@@ -12,7 +12,7 @@ use Rattle.records.specs.declared.Record.{Record}
 use Rattle.records.specs.declared.Stream.{Stream}
 use Rattle.element.specs.declared.Held.{Held}
 use Rattle.element.specs.Mux.{Applied, payloadMux, subframe, subframes, otherData, byteAlignment, body, applied, afterFlag, audioMuxElement, rest}
-use Rattle.element.specs.Reply.{made}
+use Rattle.element.specs.Parts.{made}
 use Rattle.element.specs.Claims.{contentOf, EachByKind}
 
 module _ {A : Type 0} where

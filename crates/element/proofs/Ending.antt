@@ -14,7 +14,8 @@ use Rattle.kernel.specs.Element.{Item, Passage, came, fell, withItem}
 use Rattle.kernel.proofs.Chain.{apart}
 use Rattle.kernel.proofs.Lists.{sets-append, sets-front}
 use Rattle.element.specs.declared.Verdict.the-variants.{Accepted, Refused}
-use Rattle.element.specs.Reply.{numbers, toldPassage, made, fronted, frontNumbers, frontCount, verdictFrom, mapFrom}
+use Rattle.element.specs.Reply.{numbers}
+use Rattle.element.specs.Parts.{toldPassage, made, fronted, frontNumbers, frontCount, verdictFrom, mapFrom}
 use Rattle.element.proofs.Goes.{length-numbers}
 
 module _ (sent : Bool) (at k bits : ℕ) (map : List ℕ) where

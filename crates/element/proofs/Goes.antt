@@ -22,7 +22,8 @@ use Rattle.kernel.proofs.Run.{run-forward}
 use Rattle.records.specs.declared.Stream.{Stream}
 use Rattle.element.specs.Mux.{kindP, passOver, payloadMux, subframe, subframes}
 use Rattle.element.proofs.Turns.{next-one}
-use Rattle.element.specs.Reply.{numbers, toldPassage, made, storedIf, Goes, Items}
+use Rattle.element.specs.Reply.{numbers}
+use Rattle.element.specs.Parts.{toldPassage, made, storedIf, Goes, Items}
 
 pub goes-itself : {A : Type 0} {s : List ℕ} {e : Element A} {at n k : ℕ} {store : Bool} {map : List ℕ}
     → Goes s e at n k store map (toldPassage k (walk s e at n)) (storedIf store map k (made (walk s e at n)))

@@ -14,11 +14,12 @@ use Rattle.kernel.specs.Answer.{told, value, refusal}
 use Rattle.kernel.specs.Element.{Item, Passage, came, fell, done, part, fields, item, withItem, next, walk, read, Answer, accepted, rejected, ended}
 use Rattle.kernel.proofs.Chain.{Comes, apart, gave-told, on, off, holds, fails, gives, steady}
 use Rattle.kernel.proofs.Run.{run-forward}
+use Rattle.kernel.proofs.Tests.{both}
 use Rattle.kernel.proofs.Walk.{under, onward, walk-follow, walk-gave}
 use Rattle.records.specs.declared.Record.{Record}
 use Rattle.records.specs.Table.{streamsIn}
 use Rattle.records.specs.Valid.{validOf}
-use Rattle.records.proofs.Apart.{record-ok, both}
+use Rattle.records.proofs.Apart.{record-ok}
 use Rattle.config.specs.Mux.{streamMuxConfig}
 use Rattle.config.specs.Answer.{Few}
 use Rattle.element.specs.declared.Held.{Held}
@@ -26,7 +27,8 @@ use Rattle.element.specs.declared.Verdict.{Verdict}
 use Rattle.element.specs.declared.Verdict.the-variants.{Accepted, Refused}
 use Rattle.element.specs.declared.Reply.{Reply}
 use Rattle.element.specs.Mux.{kindU, kindC, Applied, body, applied, rest, usable, useSameStreamMux, sentElement, afterFlag, audioMuxElement}
-use Rattle.element.specs.Reply.{answer, numbers, fronted, verdictFrom, mapFrom, verdictOf, mapAfter, replyWith, replySent, behindOf, sentOf}
+use Rattle.element.specs.Reply.{answer, numbers, verdictOf, mapAfter, replyWith}
+use Rattle.element.specs.Parts.{fronted, verdictFrom, mapFrom, replySent, behindOf, sentOf}
 
 -- a passage with the configuration that applied for its answer
 abbrev with : Applied → Passage Unit → Passage Applied

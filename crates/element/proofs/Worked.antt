@@ -3,9 +3,8 @@ use mathlib.Core.Path.{refl}
 use Rattle.kernel.specs.Bits.{bitAt, valueAt}
 use Rattle.kernel.specs.Reading.{_>>=_, _>>_, field, pass, here, choose, need, fit, onFit, run}
 use Rattle.kernel.specs.Element.{withItem, overFit, next, walk, follow}
-use Rattle.kernel.specs.Lists.{tab}
+use Rattle.kernel.specs.Lists.{tab, allOf}
 use Rattle.records.specs.Table.{streamsIn, tableOf}
-use Rattle.records.specs.Valid.{allOf}
 use Rattle.asc.specs.Values.{bytesFrom, latmGetValue}
 use Rattle.asc.specs.Asc.{objectType, anyType, frequency, channelConfiguration, unset, psExtension, psTail, sbrExtension, extensionType, syncExtension, tail, gaSpecificConfig, alone, audioSpecificConfig}
 use Rattle.config.specs.Mux.{windowed, configuration, frameLength, layer, layers, programs, muxHead, muxTail, streamMuxConfig}
@@ -24,6 +23,6 @@ unfolding AllComeOut table answer numbers audioMuxElement afterFlag useSameStrea
     frequency anyType objectType latmGetValue bytesFrom allOf tableOf streamsIn tab follow walk next overFit withItem run onFit fit need choose here
     pass field _>>=_ _>>_ valueAt bitAt
 worked =
-    (refl, refl) & refl & refl & (refl, refl) & (refl, refl) & (refl, refl) & (refl, refl) & refl
+    (refl, refl) & refl & refl & (refl, refl) & (refl, refl) & (refl, refl) & (refl, refl) & (refl, refl) & refl
     & (refl, refl, refl, refl, refl) & (refl, refl) & (refl, refl, refl, refl, refl) & (refl, refl)
     & (refl, refl, refl, refl, refl) & (refl, refl, refl, refl, refl) & tt

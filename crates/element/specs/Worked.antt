@@ -26,7 +26,7 @@ use Rattle.config.specs.Mux.{windowed}
 use Rattle.element.specs.declared.Held.{Held}
 use Rattle.element.specs.declared.Verdict.{Verdict}
 use Rattle.element.specs.declared.Verdict.the-variants.{Accepted, Refused}
-use Rattle.element.specs.Reply.{answer, replyOf, mapAfter}
+use Rattle.element.specs.Reply.{nothingHeld, answer, replyOf, mapAfter}
 
 -- element s held v then map: the element s with `held` held has the verdict v and the map `map`, in which other numbers stay, and `then` is held after it.
 -- bits s p w v: the w bits of s from bit p on have the value v.
@@ -103,8 +103,8 @@ first = record {
 abbrev firstHeld : Held
 firstHeld = record { present = true; config = first }
 
-abbrev nothingHeld : Held
-nothingHeld = record { present = false; config = first }
+abbrev firstNotHeld : Held
+firstNotHeld = record { present = false; config = first }
 
 unfoldable pub table : List Case
 table =
@@ -119,6 +119,8 @@ table =
     ∷ element (0x80 ∷ 0x00 ∷ []) firstHeld (Accepted 4 2 false) firstHeld (1 ∷ 0 ∷ 0 ∷ 1 ∷ 3 ∷ 0 ∷ 1 ∷ 8 ∷ 4 ∷ 0 ∷ 9 ∷ 0 ∷ 6 ∷ 0 ∷ 9 ∷ 7 ∷ [])
     -- with nothing held
     ∷ element (0x80 ∷ 0x00 ∷ []) nothingHeld (Refused (at 4 0 1)) nothingHeld []
+    -- nor is what stands there held, if it is not present
+    ∷ element (0x80 ∷ 0x00 ∷ []) firstNotHeld (Refused (at 4 0 1)) firstNotHeld []
     -- the length runs out
     ∷ element (0x80 ∷ []) firstHeld (Refused (at 3 1 1)) firstHeld []
     -- a byte is left

@@ -7,12 +7,13 @@ ghost use lib.Dec.{eqb};
 ghost use lib.ListN.{length, take};
 ghost use lib.Seq.{sets};
 ghost use Rattle.kernel.specs.Reading.{run, Sound};
-ghost use Rattle.kernel.specs.Answer.{told, toldFetched};
+ghost use Rattle.kernel.specs.Answer.{told, toldFetched, unread};
 ghost use Rattle.kernel.specs.Element.{walk, read};
 ghost use Rattle.config.specs.Answer.{Few};
 ghost use Rattle.element.specs.declared.Verdict.the-variants.{Refused};
 ghost use Rattle.element.specs.Mux.{slotFrom, slotOf, payloadLengthInfo, payloadMux, subframe, subframes, otherData, byteAlignment, rest, usable, audioMuxElement};
-ghost use Rattle.element.specs.Reply.{toldSpanned, whySpanned, toldMeasured, whyMeasured, Goes, PassesOver, Items, fronted, frontNumbers, frontCount, verdictFrom, mapFrom, answer, verdictOf, mapAfter, replyWith, replyOf, behindOf, heldSent, sentOf};
+ghost use Rattle.element.specs.Reply.{nothingHeld, answer, verdictOf, mapAfter, replyWith, replyOf};
+ghost use Rattle.element.specs.Parts.{toldSpanned, whySpanned, toldMeasured, whyMeasured, Goes, PassesOver, Items, fronted, frontNumbers, frontCount, verdictFrom, mapFrom, behindOf, heldSent, sentOf};
 use config::stream_mux_config;
 use config::why_verdict;
 use kernel::Cursor;
@@ -20,9 +21,11 @@ use kernel::Fetched;
 use kernel::Refusal;
 use kernel::Window;
 use kernel::fetch;
+use kernel::unread;
 use kernel::why;
 use records::Record;
 use records::Stream;
+use records::no_record;
 use records::streams_in;
 use records::valid;
 
@@ -59,6 +62,17 @@ pub enum Measured {
 pub struct Lengths {
     pub verdict: Measured,
     pub widths: [usize; 16],
+}
+
+// What is held before a configuration was sent.
+pub fn nothing_held() -> Held
+    ensures { λ r. ⌜ r ≡ nothingHeld ⌝ }
+{
+    let blank = no_record();
+    Held {
+        present: false,
+        config: blank,
+    }
 }
 
 fn why_spanned(f: Spanned) -> Refusal
@@ -501,14 +515,11 @@ fn element_of(el: &[u8], held: Held, map: &mut [u32]) -> Reply
 }
 
 fn refused_unread(number: usize, held: Held) -> Reply
-    ensures { λ r. ⌜ r ≡ record { verdict = Refused (record { number = number; place = 0; read = 0 }); held = held } ⌝ }
+    ensures { λ r. ⌜ r ≡ record { verdict = Refused (unread number); held = held } ⌝ }
 {
+    let x = unread(number);
     Reply {
-        verdict: Verdict::Refused(Refusal {
-            number: number,
-            place: 0,
-            read: 0,
-        }),
+        verdict: Verdict::Refused(x),
         held: held,
     }
 }

@@ -4,29 +4,6 @@ ghost use Prim.Native.Nat.{_+_, _≤_, _<_};
 ghost use lib.ListN.{length};
 use element::Held;
 use element::Verdict;
-use records::Record;
-use records::no_stream;
-
-fn nothing_held() -> Held {
-    let blank = no_stream();
-    Held {
-        present: false,
-        config: Record {
-            version: 0,
-            variant: 0,
-            tara: 0,
-            framing: 0,
-            subframes: 0,
-            programs: 0,
-            layers: [0; 16],
-            streams: [blank; 16],
-            other: 0,
-            bits: 0,
-            checked: 0,
-            crc: 0,
-        },
-    }
-}
 
 fn show_number(n: u64) {
     io::write_all(1, b" ");
@@ -133,7 +110,7 @@ fn end_of(s: &[u8], at: usize) -> usize
 fn all(s: &[u8], map: &mut [u32])
     requires { ⌜ length (now map) ≡ 4368 ⌝ }
 {
-    let mut held = nothing_held();
+    let mut held = element::nothing_held();
     let mut at: usize = 0;
     let mut end = end_of(s, 0);
     while 2 <= end - at {

@@ -20,9 +20,13 @@ abbrev pub toldFetched : Fetched → Told ℕ
 toldFetched (Value v c) = value v (c .at) (c .read)
 toldFetched (Refused x) = refusal x
 
+-- a refusal given at no field
+abbrev pub unread : ℕ → Refusal
+unread number = record { number = number; place = 0; read = 0 }
+
 -- the refusal that an answer holds; a value holds none
 abbrev pub nothing : Refusal
-nothing = record { number = 0; place = 0; read = 0 }
+nothing = unread 0
 
 abbrev pub whyFetched : Fetched → Refusal
 whyFetched (Value v c) = nothing

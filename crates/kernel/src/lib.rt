@@ -1,12 +1,13 @@
 // Bits fetched from lent bytes, and bits put into them.
 ghost use mathlib.Core.Path.{_≡_};
 ghost use Prim.Native.Nat.{_+_, _*_, _%_, _^_, _≤_, min};
-ghost use lib.ListN.{length, take};
+ghost use lib.ListN.{length, set, take};
 ghost use lib.Seq.{sets};
 ghost use Rattle.kernel.specs.declared.Window.the-variants.{Open};
 ghost use Rattle.kernel.specs.Bits.{valueAt, bitsOf, unpack, Put};
+ghost use Rattle.kernel.specs.Lists.{Stored};
 ghost use Rattle.kernel.specs.Reading.{passes, field, pass, run, Sound};
-ghost use Rattle.kernel.specs.Answer.{told, toldFetched, whyFetched, toldSkipped};
+ghost use Rattle.kernel.specs.Answer.{told, unread, toldFetched, whyFetched, toldSkipped};
 
 // Where a field must end: anywhere in the bytes, or by a bit before their end too.
 pub enum Window {
@@ -24,6 +25,17 @@ pub struct Refusal {
     pub number: usize,
     pub place: usize,
     pub read: usize,
+}
+
+// A refusal given at no field.
+pub fn unread(number: usize) -> Refusal
+    ensures { λ r. ⌜ r ≡ unread number ⌝ }
+{
+    Refusal {
+        number: number,
+        place: 0,
+        read: 0,
+    }
 }
 
 pub enum Fetched {
@@ -212,4 +224,26 @@ pub fn put_some(out: &mut [u8], at: usize, src: &[u8], n: usize) -> usize
         return to;
     }
     put(out, to, rest, (src[whole] as u32) >> (8 - rest))
+}
+
+// A byte at its place; past the end it is dropped.
+pub fn store(out: &mut [u8], at: usize, b: u8)
+    ensures { λ r. ⌜ now (out .exit) ≡ set (now (out .entry)) at b ⌝ }
+{
+    if at < out.len() {
+        out[at] = b;
+    }
+}
+
+// Whole bytes from byte `at` on; the byte behind them.
+pub fn lay(out: &mut [u8], at: usize, src: &[u8]) -> usize
+    requires { ⌜ at + length (now src) ≤ 1000000 ⌝ }
+    ensures { λ r. ⌜ (r ≡ at + length (now (src .entry))) × Stored (now (out .entry)) at (now (src .entry)) (now (out .exit)) r ⌝ }
+{
+    let mut i: usize = 0;
+    while i < src.len() {
+        store(out, at + i, src[i]);
+        i += 1;
+    }
+    at + src.len()
 }

@@ -1,12 +1,13 @@
 -- What it says of a configuration, a stream and a record that it is valid: the tests taken apart.
-use mathlib.Core.Path.{_≡_, refl, ap, subst}
+use mathlib.Core.Path.{_≡_, refl, ap}
 use mathlib.Core.Bool.{Bool, true, false, cond, _&&_, _||_}
 use mathlib.Core.List.{List}
-use Prim.Native.Nat.{ℕ, zero, suc, _<_, _≤_}
+use Prim.Native.Nat.{ℕ, _<_, _≤_}
 use native.Mathlib.Omega.{arith}
 use lib.Dec.{leb, ltb, eqb}
 use lib.ListN.{getD}
-use borrow.Author.Tests.{leb-true, eqb-true, le-leb, lt-leb, lt-ltb, le-ltb, ltb-true, ltb-false}
+use borrow.Author.Tests.{leb-true, eqb-true, le-leb, lt-leb, lt-ltb, le-ltb}
+use Rattle.kernel.proofs.Tests.{both, three, five, either, all-of}
 use Rattle.records.specs.declared.Freq.{Freq}
 use Rattle.records.specs.declared.Freq.the-variants.{Index, Hz}
 use Rattle.records.specs.declared.Form.{Form}
@@ -17,30 +18,7 @@ use Rattle.records.specs.declared.Record.{Record}
 use Rattle.records.specs.Blank.{noStream}
 use Rattle.records.specs.Table.{streamsIn}
 use Rattle.records.specs.Valid.{validFreq, validForm, validConfig, validSlot, validStream, blankFreq, blankForm, blankStream}
-use Rattle.records.specs.Valid.{allOf, layersOk, streamsOk, headOk, tailOk, validOf}
-
-pub both : (a b : Bool) → (a && b) ≡ true → (a ≡ true) × (b ≡ true)
-both true b h = (refl, h)
-both false b h = (h, let z : false ≡ true = h in cc)
-
-pub three : (a b c : Bool) → (a && b && c) ≡ true → (a ≡ true) × (b ≡ true) × (c ≡ true)
-three a b c p = let q = both (a && b) c p in let r = both a b (q .0) in (r .0, r .1, q .1)
-
-pub five : (a b c d e : Bool) → (a && b && c && d && e) ≡ true → (a ≡ true) × (b ≡ true) × (c ≡ true) × (d ≡ true) × (e ≡ true)
-five a b c d e p = let q = three (a && b && c) d e p in let r = three a b c (q .0) in (r .0, r .1, r .2, q .1, q .2)
-
-pub either : (a b : Bool) → (a || b) ≡ true → a ≡ false → b ≡ true
-either true b h e = let z : true ≡ false = e in cc
-either false b h e = h
-
-last : (n : ℕ) (f : ℕ → Bool) {i : ℕ} → f n ≡ true → (i < n → f i ≡ true) → i < suc n → (t : Bool) → ltb i n ≡ t → f i ≡ true
-last n f {i} h g l true e = g (ltb-true i n e)
-last n f {i} h g l false e = let q : n ≡ i = omega (arith, ltb-false i n e) in subst (λ (k : ℕ). f k ≡ true) q h
-
-pub all-of : (n : ℕ) (f : ℕ → Bool) → allOf n f ≡ true → (i : ℕ) → i < n → f i ≡ true
-unfolding allOf
-all-of zero f h i l = absurd (omega arith)
-all-of (suc n) f h i l = last n f (both (allOf n f) (f n) h .1) (λ k. all-of n f (both (allOf n f) (f n) h .0) i k) l (ltb i n) refl
+use Rattle.records.specs.Valid.{layersOk, streamsOk, headOk, tailOk, validOf}
 
 -- ---- a configuration
 

@@ -1,4 +1,4 @@
-pub mod Same
+pub mod Equal
 pub mod Tables
 pub mod Apart
 pub mod Theorems

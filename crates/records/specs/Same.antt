@@ -1,12 +1,18 @@
--- When two configurations are the same. A form is compared by its number, its frequency and its PS flag.
+-- When two configurations, and two whole records, are the same. A form is compared by its number, its frequency and its PS flag.
 use mathlib.Core.Bool.{Bool, false, _&&_}
+use mathlib.Core.List.{List}
 use Prim.Native.Nat.{ℕ}
 use lib.Dec.{eqb}
+use lib.ListN.{getD}
+use Rattle.kernel.specs.Lists.{allOf}
 use Rattle.records.specs.declared.Freq.{Freq}
 use Rattle.records.specs.declared.Freq.the-variants.{Index, Hz}
 use Rattle.records.specs.declared.Form.{Form}
 use Rattle.records.specs.declared.Form.the-variants.{None, Type5, Type29, Flag0, Flag1, FlagPs}
 use Rattle.records.specs.declared.Config.{Config}
+use Rattle.records.specs.declared.Stream.{Stream}
+use Rattle.records.specs.declared.Record.{Record}
+use Rattle.records.specs.Blank.{noStream}
 
 abbrev pub sameFreq : Freq → Freq → Bool
 sameFreq (Index i) (Index j) = eqb i j
@@ -45,3 +51,18 @@ abbrev pub sameConfig : Config → Config → Bool
 sameConfig a b =
     eqb (a .core) (b .core) && eqb (a .channels) (b .channels) && eqb (a .frame) (b .frame) && eqb (a .depends) (b .depends)
     && eqb (a .extension) (b .extension) && sameFreq (a .freq) (b .freq) && sameForm (a .form) (b .form)
+
+abbrev pub sameStream : Stream → Stream → Bool
+sameStream a b = eqb (a .kind) (b .kind) && eqb (a .fullness) (b .fullness) && eqb (a .slot) (b .slot) && sameConfig (a .config) (b .config)
+
+abbrev pub sameLayers : List ℕ → List ℕ → Bool
+sameLayers a b = allOf 16 λ p. eqb (getD a p 0) (getD b p 0)
+
+abbrev pub sameStreams : List Stream → List Stream → Bool
+sameStreams a b = allOf 16 λ i. sameStream (getD a i noStream) (getD b i noStream)
+
+abbrev pub sameRecord : Record → Record → Bool
+sameRecord a b =
+    eqb (a .version) (b .version) && eqb (a .variant) (b .variant) && eqb (a .tara) (b .tara) && eqb (a .framing) (b .framing)
+    && eqb (a .subframes) (b .subframes) && eqb (a .programs) (b .programs) && eqb (a .other) (b .other) && eqb (a .bits) (b .bits)
+    && eqb (a .checked) (b .checked) && eqb (a .crc) (b .crc) && sameLayers (a .layers) (b .layers) && sameStreams (a .streams) (b .streams)

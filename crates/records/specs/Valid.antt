@@ -1,9 +1,10 @@
 -- The records that may be written and held: all that refusal 16 does not refuse.
 use mathlib.Core.Bool.{Bool, true, false, cond, _&&_, _||_}
 use mathlib.Core.List.{List}
-use Prim.Native.Nat.{ℕ, zero, suc}
+use Prim.Native.Nat.{ℕ}
 use lib.ListN.{getD}
 use lib.Dec.{leb, ltb, eqb}
+use Rattle.kernel.specs.Lists.{allOf}
 use Rattle.records.specs.declared.Freq.{Freq}
 use Rattle.records.specs.declared.Freq.the-variants.{Index, Hz}
 use Rattle.records.specs.declared.Form.{Form}
@@ -57,11 +58,6 @@ abbrev pub blankStream : Stream → Bool
 blankStream s =
     eqb (s .config .core) 0 && eqb (s .config .channels) 0 && eqb (s .config .frame) 0 && eqb (s .config .depends) 0 && eqb (s .config .extension) 0
     && eqb (s .kind) 0 && eqb (s .fullness) 0 && eqb (s .slot) 0 && blankFreq (s .config .freq) && blankForm (s .config .form)
-
--- f holds of 0, 1, .., n - 1
-unfoldable pub allOf : ℕ → (ℕ → Bool) → Bool
-allOf zero f = true
-allOf (suc n) f = allOf n f && f n
 
 -- of numProgram n: a numLayer of three bits for each program, 0 past them
 abbrev pub layerOk : ℕ → ℕ → ℕ → Bool

@@ -133,7 +133,8 @@ fn stream_row(program: u32, layer: u32, s: Stream) -> Row
     }
 }
 
-fn cell_at(table: [[u8; 8]; 16], p: usize, l: usize) -> u8
+// The number of a stream by the table, or what stands where there is none.
+pub fn cell_at(table: [[u8; 8]; 16], p: usize, l: usize) -> u8
     requires { ⌜ (p < 16) × (l < 8) ⌝ }
     ensures { λ r. ⌜ r ≡ getD (getD table p []) l 0 ⌝ }
 {

@@ -9,10 +9,11 @@ use Rattle.kernel.specs.Answer.{refusal}
 use Rattle.kernel.specs.Reading.{Sound}
 use Rattle.kernel.proofs.Chain.{got, so, gives, on, off, steady}
 use Rattle.config.specs.Mux.{streamMuxConfig}
-use Rattle.config.specs.Answer.{toldHeaded, toldTailed, toldMux, toldVerdict, IfDone, whyVerdict, IfRefused, tableAfter, Few, noRecord, placesOf, whyHeaded, whyTailed}
+use Rattle.config.specs.Answer.{toldHeaded, toldTailed, toldMux, toldVerdict, IfDone, whyVerdict, IfRefused, tableAfter, Few, placesOf, whyHeaded, whyTailed}
 use Rattle.kernel.specs.declared.Refusal.{Refusal}
 use Rattle.kernel.specs.Answer.{Told}
 use Rattle.records.specs.declared.Record.{Record}
+use Rattle.records.specs.Blank.{noRecord}
 use Rattle.config.specs.declared.Mux.{Mux}
 use Rattle.config.specs.declared.Verdict.the-variants.{Refused}
 use Rattle.config.proofs.stream_mux_config.Statement.{statement}

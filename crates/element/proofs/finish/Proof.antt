@@ -9,7 +9,7 @@ use Rattle.kernel.specs.Answer.{toldFetched, whyFetched}
 use Rattle.element.specs.Mux.{rest}
 use Rattle.element.proofs.Goes.{goes-told, goes-steady}
 use lib.Seq.{sets}
-use Rattle.element.specs.Reply.{frontNumbers}
+use Rattle.element.specs.Parts.{frontNumbers}
 use Rattle.kernel.specs.Element.{walk}
 use Rattle.element.specs.declared.Verdict.the-variants.{Refused}
 use Rattle.element.proofs.Ending.{few-front, finish-refused, finish-over, finish-counted}

@@ -9,7 +9,7 @@ use Rattle.kernel.specs.Answer.{value, refusal, told}
 use Rattle.kernel.specs.Reading.{run, Sound}
 use Rattle.kernel.proofs.Chain.{Comes, got, itself, same-end, steady}
 use Rattle.element.specs.Mux.{payloadLengthInfo}
-use Rattle.element.specs.Reply.{toldSpanned, whySpanned}
+use Rattle.element.specs.Parts.{toldSpanned, whySpanned}
 use Rattle.records.specs.Blank.{noStream}
 use Rattle.element.specs.declared.Spanned.the-variants.{Value}
 use Rattle.element.proofs.Turns.{lengths-done, lengths-stop, lengths-turn, widths-more}

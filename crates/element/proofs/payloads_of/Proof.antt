@@ -7,7 +7,7 @@ use borrow.Author.Needs.{needs}
 use Rattle.kernel.specs.Answer.{toldFetched}
 use Rattle.kernel.specs.Reading.{Sound}
 use Rattle.element.specs.Mux.{payloadMux}
-use Rattle.element.specs.Reply.{toldPassage, made, storedIf, Goes}
+use Rattle.element.specs.Parts.{toldPassage, made, storedIf, Goes}
 use Rattle.element.proofs.Goes.{goes-itself, goes-told, goes-back, goes-steady}
 use Rattle.kernel.specs.declared.Fetched.the-variants.{Value}
 use Rattle.kernel.specs.Element.{walk, closed}

@@ -9,7 +9,7 @@ use borrow.Author.Needs.{needs}
 use Rattle.kernel.specs.Answer.{value, refusal}
 use Rattle.kernel.proofs.Chain.{Comes, got, steady}
 use Rattle.element.specs.Mux.{payloadLengthInfo, subframe}
-use Rattle.element.specs.Reply.{toldMeasured, whyMeasured}
+use Rattle.element.specs.Parts.{toldMeasured, whyMeasured}
 use Rattle.element.proofs.Goes.{goes-itself, goes-part, goes-told, forward, goes-from, ahead, stop-is, items-more, stored-item}
 use Rattle.kernel.specs.Element.{item, fields}
 use Rattle.element.specs.Mux.{kindL}

@@ -7,7 +7,7 @@ use borrow.Author.Needs.{needs}
 use Rattle.kernel.specs.Answer.{toldFetched}
 use Rattle.kernel.specs.Reading.{Sound}
 use Rattle.element.specs.Mux.{subframes}
-use Rattle.element.specs.Reply.{toldPassage, made, storedIf, Goes}
+use Rattle.element.specs.Parts.{toldPassage, made, storedIf, Goes}
 use Rattle.element.proofs.Goes.{goes-itself, goes-told, goes-back, subframes-done, subframes-turn, subframes-off, goes-steady}
 use Rattle.kernel.specs.Element.{walk}
 use Rattle.element.proofs.subframes_of.Statement.{statement}

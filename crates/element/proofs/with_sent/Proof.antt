@@ -8,7 +8,8 @@ use Rattle.config.specs.Mux.{streamMuxConfig}
 use Rattle.config.specs.Answer.{toldVerdict, whyVerdict}
 use Rattle.element.specs.declared.Held.{Held}
 use Rattle.element.specs.declared.Verdict.{Verdict}
-use Rattle.element.specs.Reply.{mapAfter, replyWith, replySent}
+use Rattle.element.specs.Reply.{mapAfter, replyWith}
+use Rattle.element.specs.Parts.{replySent}
 use Rattle.element.proofs.Whole.{behind-sent, sent-done, sent-forward, sent-steady, sent-refused}
 use Rattle.element.proofs.with_sent.Statement.{statement}
 use Rattle.element.proofs.with_sent.Tie as tie

@@ -1,0 +1,3 @@
+-- Laws that the proofs of several functions share, and the theorem.
+pub mod Lines
+pub mod Theorems

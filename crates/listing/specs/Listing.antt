@@ -1,0 +1,68 @@
+-- The listing: records of 24 bytes, one for each item of an accepted element, and one for a refused element.
+use mathlib.Core.List.{List, [], _∷_, _++_}
+use Prim.Native.Nat.{ℕ, zero, suc, _+_, _/_, _%_}
+use lib.ListN.{length, getD}
+use Rattle.kernel.specs.Element.{Item, Answer, accepted, rejected}
+use Rattle.text.specs.Text.{letters}
+use Rattle.sync.specs.declared.Hunted.{Hunted}
+use Rattle.sync.specs.declared.Hunted.the-variants.{Found, Refused}
+use Rattle.sync.specs.Sync.{huntOf, elementAt}
+use Rattle.element.specs.declared.Held.{Held}
+use Rattle.element.specs.Mux.{Applied}
+use Rattle.element.specs.Reply.{nothingHeld, answer, heldAfter}
+
+-- the digit of n at a place 1, 10, 100, ..
+abbrev pub digitAt : ℕ → ℕ → ℕ
+digitAt n place = 48 + n / place % 10
+
+-- element number, kind letter, stream, first bit, width, one space between, newline
+abbrev pub lineOf : ℕ → ℕ → ℕ → ℕ → ℕ → List ℕ
+lineOf number letter stream first width =
+    digitAt number 100000 ∷ digitAt number 10000 ∷ digitAt number 1000 ∷ digitAt number 100 ∷ digitAt number 10 ∷ digitAt number 1
+    ∷ 32 ∷ letter ∷ 32
+    ∷ digitAt stream 10 ∷ digitAt stream 1
+    ∷ 32
+    ∷ digitAt first 10000 ∷ digitAt first 1000 ∷ digitAt first 100 ∷ digitAt first 10 ∷ digitAt first 1
+    ∷ 32
+    ∷ digitAt width 10000 ∷ digitAt width 1000 ∷ digitAt width 100 ∷ digitAt width 10 ∷ digitAt width 1
+    ∷ 10 ∷ []
+
+-- kinds 1 to 6
+abbrev pub kindLetters : List ℕ
+kindLetters = letters "?UCLPOA"
+
+abbrev pub letterOf : ℕ → ℕ
+letterOf kind = getD kindLetters kind 63
+
+abbrev pub itemLine : ℕ → Item → List ℕ
+itemLine number it = lineOf number (letterOf (it .kind)) (it .stream) (it .first) (it .width)
+
+unfoldable pub itemLines : ℕ → List Item → List ℕ
+itemLines number [] = []
+itemLines number (it ∷ its) = itemLine number it ++ itemLines number its
+
+-- X, refusal number, place, fields read
+abbrev pub refusedLine : ℕ → ℕ → ℕ → ℕ → List ℕ
+refusedLine number refusal place count = lineOf number 88 refusal place count
+
+-- the records of the element with this number
+abbrev pub listed : ℕ → Answer Applied → List ℕ
+listed number (accepted a its n) = itemLines number its
+listed number (rejected r its) = refusedLine number (r .refusal .number) (r .refusal .place) (r .refusal .read)
+
+-- a hunt's frame, and what a function of its place and length gives; nothing where none is found
+abbrev pub forFrame : Hunted → (ℕ → ℕ → List ℕ) → List ℕ
+forFrame (Found p n) f = f p n
+forFrame (Refused x) f = []
+
+module _ (s : List ℕ) where
+  -- at most k frames of a capture, from byte `at` on
+  unfoldable pub listedFrom : ℕ → ℕ → ℕ → Held → List ℕ
+  listedFrom zero at number held = []
+  listedFrom (suc k) at number held = forFrame (huntOf s at) λ p n.
+      let x = answer (elementAt s p n) held 4368 in
+      listed number x ++ listedFrom k (p + 3 + n) (number + 1) (heldAfter held x)
+
+-- the listing of a capture
+abbrev pub listingOf : List ℕ → List ℕ
+listingOf s = listedFrom s (length s) 0 0 nothingHeld

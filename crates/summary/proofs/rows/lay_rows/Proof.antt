@@ -1,0 +1,67 @@
+-- `summary::rows::lay_rows` meets its contract.
+use native.Mathlib.Omega.{arith}
+use mathlib.Core.Path.{_≡_}
+use Prim.Native.Nat.{_+_, _-_, _*_, _≤_}
+use Rattle.kernel.specs.Lists.{Stored}
+use Rattle.kernel.proofs.Lists.{ToStore, store-all, store-on, stored-none, stored-length}
+use Rattle.summary.specs.Summary.{programsText, rowsText}
+use Rattle.summary.proofs.Texts.{programs-turn}
+use borrow.Author.Needs.{needs}
+use Rattle.summary.proofs.rows.lay_rows.Statement.{statement}
+use Rattle.summary.proofs.rows.lay_rows.Tie as tie
+
+abbrev Inv-loop : tie.InvT-loop
+Inv-loop out₀ element r table to₀ p₀ out to p = (p ≤ 16) × (to ≤ 896 * p) × ToStore out₀ 0 (programsText element r table 0 16) out to (programsText element r table p (16 - p))
+
+abbrev μ-loop : tie.MeasureT-loop
+μ-loop out₀ element r table to₀ p₀ out to p = 16 - p
+
+table-of-requires : tie.Need-table-of-requires Inv-loop μ-loop
+table-of-requires c κs = search needs
+
+loop-holds : tie.Need-loop-holds Inv-loop μ-loop
+loop-holds c = (omega arith, omega arith, store-all)
+
+lay-layers-requires : tie.Need-lay-layers-requires Inv-loop μ-loop
+lay-layers-requires c κs = search needs
+
+add-p : tie.Need-add-p Inv-loop μ-loop
+add-p c = search needs
+
+loop-less : tie.Need-loop-less Inv-loop μ-loop
+loop-less c = search needs
+
+loop-again : tie.Need-loop-again Inv-loop μ-loop
+loop-again c =
+    let f = c .before .before in
+    let l = f .before .before .before in
+    let a = l .before .before .before .before .args in
+    (omega arith, omega (arith, f .lay-layers .ensures .0, l .loop .inv), store-on (rw (programs-turn (a .element) (a .r) (l .before .table-of .result) (l .loop .p) (omega arith)) at (l .loop .inv .2)) (f .lay-layers .ensures .1))
+
+done : (c : tie.After-loop Inv-loop μ-loop) → let a = c .before .before .before .before .before .args in
+    Stored (a .out .now) 0 (rowsText (a .element) (a .r)) (c .before .loop .out) (c .before .loop .to)
+unfolding programsText
+done c =
+    let e : 16 - c .before .loop .p ≡ 0 = omega arith in
+    rw (c .before .before .table-of .ensures) at ((rw e at (c .before .loop .inv .2)) .then stored-none)
+
+same-length : tie.Need-same-length Inv-loop μ-loop
+same-length c = stored-length (done c)
+
+returns : tie.Need-returns Inv-loop μ-loop
+returns c = (omega arith, done c)
+
+pub lay-rows-spec : {M : Type 1} → statement M
+lay-rows-spec =
+    tie.close
+    (tie.spec
+    Inv-loop
+    μ-loop
+    table-of-requires
+    loop-holds
+    lay-layers-requires
+    add-p
+    loop-less
+    loop-again
+    same-length
+    returns)

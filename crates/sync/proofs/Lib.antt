@@ -1,0 +1,6 @@
+-- Laws that the proofs of several functions share.
+pub mod Places
+pub mod First
+pub mod Frames
+pub mod Written
+pub mod Theorems

@@ -1,0 +1,3 @@
+-- The sync layer, and what is claimed of it.
+pub mod Sync
+pub mod Claims

@@ -1,0 +1,3 @@
+-- Text in bytes, and the refusals in words.
+pub mod Text
+pub mod Words
