@@ -195,25 +195,30 @@ class Element:
 
     def subframe(self, streams, sizes):
         """sizes: bytes of each payload; of no meaning for a stream of frameLengthType 1."""
+        sizes = [layer.value + 20 if layer.type == 1 else size for layer, size in zip(streams, sizes)]
+        self.payloads(streams, [bytes((37 * i + stream) % 256 for i in range(size)) for stream, size in enumerate(sizes)])
+
+    def payloads(self, streams, payloads):
+        """A subframe of these payloads; for a stream of frameLengthType 1 they have the size it says."""
         first = self.at()
-        for layer, size in zip(streams, sizes):
+        for layer, data in zip(streams, payloads):
             if layer.type == 0:
-                for byte in [255] * (size // 255) + [size % 255]:
+                for byte in [255] * (len(data) // 255) + [len(data) % 255]:
                     self.part("length byte", 8, byte)
         self.item("L", 0, first)
-        for stream, (layer, size) in enumerate(zip(streams, sizes)):
+        for stream, data in enumerate(payloads):
             first = self.at()
-            data = bytes((37 * i + stream) % 256 for i in range(layer.value + 20 if layer.type == 1 else size))
             self.part("payload", 8 * len(data), int.from_bytes(data, "big"))
             self.item("P", stream, first)
 
-    def end(self, other=None):
+    def end(self, other=None, value=1, align=1):
+        """other: bits of other data, and their value; align: the alignment takes as many of its lowest bits as it has."""
         if other is not None:
             first = self.at()
-            self.part("other data", other, 1)
+            self.part("other data", other, value)
             self.item("O", 0, first)
         first = self.at()
-        self.raw(-first % 8, 1)
+        self.raw(-first % 8, align)
         self.item("A", 0, first)
         return self
 

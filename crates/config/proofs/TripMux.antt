@@ -113,7 +113,7 @@ layers-trip version (suc n) next ss at l len few v =
 
 -- ---- the programs
 
-in-more : (ks : List ℕ) (n p : ℕ) → p ≤ n → streamsIn ks n p + (getD ks p 0 + 1) ≡ streamsIn ks n (p + 1)
+pub in-more : (ks : List ℕ) (n p : ℕ) → p ≤ n → streamsIn ks n p + (getD ks p 0 + 1) ≡ streamsIn ks n (p + 1)
 unfolding streamsIn
 in-more ks n p h = rw (add-one p, le-leb p n h)
 
@@ -122,7 +122,7 @@ unfolding streamsIn
 in-less ks n p zero = rw add-zero (omega arith)
 in-less ks n p (suc k) = rw add-suc (omega (arith, in-less ks n p k))
 
-in-upto : (ks : List ℕ) (n p q : ℕ) → p ≤ q → streamsIn ks n p ≤ streamsIn ks n q
+pub in-upto : (ks : List ℕ) (n p q : ℕ) → p ≤ q → streamsIn ks n p ≤ streamsIn ks n q
 in-upto ks n p q h = let e : p + (q - p) ≡ q = omega arith in rw e at (in-less ks n p (q - p))
 
 in-past : (ks : List ℕ) (n k : ℕ) → streamsIn ks n (n + 1 + k) ≡ streamsIn ks n (n + 1)

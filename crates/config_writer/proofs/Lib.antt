@@ -1,0 +1,3 @@
+-- Laws that the proofs of several functions share.
+pub mod Chains
+pub mod Turns

@@ -1,0 +1,12 @@
+-- The laws that the proofs of this crate cite, and the theorems.
+pub mod Follow
+pub mod Pieces
+pub mod TripElement
+pub mod Contents
+pub mod Lengths
+pub mod Whole
+pub mod Theorems
+pub mod Rows
+pub mod Subframes
+pub mod Parts
+pub mod Answers

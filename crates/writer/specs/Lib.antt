@@ -1,0 +1,5 @@
+-- What is written of an element, what `write` answers, what is claimed of it, and what the functions that measure promise.
+pub mod Written
+pub mod Write
+pub mod Claims
+pub mod Sizes
