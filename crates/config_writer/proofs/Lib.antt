@@ -1,3 +1,2 @@
 -- Laws that the proofs of several functions share.
-pub mod Chains
 pub mod Turns

@@ -12,9 +12,10 @@ use Rattle.kernel.specs.declared.Window.{Window}
 use Rattle.kernel.specs.declared.Window.the-variants.{Open, UpTo}
 use Rattle.kernel.specs.Bits.{bitsOf, pack, Holds}
 use Rattle.kernel.specs.Reading.{Reading, give, field, pass, here, choose, need, _>>=_, _>>_, Outcome, gave, refused, fits, fit, onFit, run, after}
-use Rattle.kernel.specs.Element.{Passing, fields, passed, Item, item, Element, done, part, over, spot, Passage, came, fell, withItem, overFit, next, walk, Answer, accepted, rejected, ended, read}
+use Rattle.kernel.specs.Element.{Passing, fields, passed, Item, item, Element, done, part, over, spot, Passage, came, fell, follow, withItem, overFit, next, walk, Answer, accepted, rejected, ended, read}
 use Rattle.kernel.specs.Trip.{InWindow, Gives, Reads, CameTo, Accepts, ReadsAll}
 use Rattle.kernel.proofs.Run.{run-bind}
+use Rattle.kernel.proofs.Walk.{under, onward, walk-follow}
 use Rattle.kernel.proofs.Bits.{length-bitsOf, bits-mod}
 use Rattle.kernel.proofs.Held.{holds-left, holds-right, holds-value, pack-holds, length-pack}
 
@@ -176,6 +177,28 @@ reads-over {at} {kind} {stream} {w} {c} {e} {y} {a} {its} x q r = record {
 pub reads-spot : {A : Type 0} {at : ℕ} {b : List Bool} {a : A} {its : List Item} (f : ℕ → Element A) → ReadsAll at (f at) b a its → ReadsAll at (spot f) b a its
 unfolding walk
 reads-spot f r = record { comes = r .comes }
+
+-- one element and then another
+
+comes-under : {B : Type 0} (its : List Item) (x : Passage B) (b : B) (js : List Item) (q : ℕ) → CameTo x b js q → CameTo (under its x) b (its ++ js) q
+unfolding under
+comes-under its (came b′ js′ q′ n) b js q h = (h .0, rw (h .1), h .2)
+comes-under its (fell r js′) b js q h = absurd h
+
+comes-onward : {A B : Type 0} (x : Passage A) (g : A → ℕ → ℕ → Passage B) (a : A) (its : List Item) (p : ℕ) (b : B) (js : List Item) (q : ℕ)
+    → CameTo x a its p → ((n : ℕ) → CameTo (g a p n) b js q) → CameTo (onward x g) b (its ++ js) q
+unfolding onward
+comes-onward (came a′ its′ p′ n) g a its p b js q h k = rw (h .0, h .1, h .2) (comes-under its (g a p n) b js q (k n))
+comes-onward (fell r its′) g a its p b js q h k = absurd h
+
+pub reads-follow : {A B : Type 0} {at : ℕ} {e : Element A} {x y : List Bool} {a : A} {b : B} {its js : List Item} (g : A → Element B)
+    → ReadsAll at e x a its → ReadsAll (at + length x) (g a) y b js → ReadsAll at (follow e g) (x ++ y) b (its ++ js)
+reads-follow {at} {e} {x} {y} {a} {b} {its} {js} g r q = record {
+  comes = λ s n h l.
+      let len : at + length (x ++ y) ≡ at + length x + length y = simp length-append (omega arith) in
+      rw (len, walk-follow s g e at n) (comes-onward (walk s e at n) _ a its (at + length x) b js (at + length x + length y)
+      (r .comes s n (holds-left s at x y h) (omega (arith, len))) (λ n′. q .comes s n′ (holds-right s at x y h) (omega (arith, len))));
+}
 
 accepts-end : {A : Type 0} (bits : ℕ) (x : Passage A) (a : A) (its : List Item) → CameTo x a its bits → Accepts (ended bits x) a its
 accepts-end bits (came a′ its′ p n) a its h = rw (eq-eqb p bits (h .2)) (h .0, h .1)

@@ -1,5 +1,4 @@
 -- The laws that the proofs of this crate cite, and the theorems.
-pub mod Follow
 pub mod Pieces
 pub mod TripElement
 pub mod Contents

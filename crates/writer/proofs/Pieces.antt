@@ -10,9 +10,8 @@ use Rattle.kernel.specs.declared.Window.the-variants.{Open}
 use Rattle.kernel.specs.Reading.{Reading}
 use Rattle.kernel.specs.Element.{Item, Element, done, part, over, spot, follow, Passing, closed, spare, fields, passed}
 use Rattle.kernel.specs.Trip.{Reads, ReadsAll}
-use Rattle.kernel.proofs.Trip.{reads-done, reads-part, reads-over, reads-spot}
+use Rattle.kernel.proofs.Trip.{reads-done, reads-part, reads-over, reads-spot, reads-follow}
 use Rattle.writer.specs.Written.{Piece, piece, bitsIn, itemsAt}
-use Rattle.writer.proofs.Follow.{reads-follow}
 
 pub bits-append : (ps qs : List Piece) → bitsIn (ps ++ qs) ≡ bitsIn ps ++ bitsIn qs
 unfolding bitsIn

@@ -9,6 +9,7 @@ use native.Mathlib.Omega.{arith}
 use lib.ListN.{length, getD, take, drop}
 use lib.Seq.{drop-cons, drop-drop, drop-length, getD-drop, getD-take, length-take-le}
 use Rattle.kernel.specs.Bits.{bitsOf}
+use Rattle.kernel.proofs.Tests.{and-true}
 use Rattle.records.specs.declared.Stream.{Stream}
 use Rattle.records.specs.Blank.{noStream}
 use Rattle.writer.specs.Written.{onesBits, lengthBits, slotBits, lengthsBits, sumOf}
@@ -30,14 +31,6 @@ length-last n h =
     let q : n / 255 ≡ 0 = omega arith in
     let r : n % 255 ≡ n = omega arith in
     rw (q, r)
-
-pub and-true : (b : Bool) → (b && true) ≡ b
-and-true true = refl
-and-true false = refl
-
-pub and-assoc : (a b c : Bool) → (a && (b && c)) ≡ ((a && b) && c)
-and-assoc true b c = refl
-and-assoc false b c = refl
 
 -- the slot at place `at`, of stream i
 module _ (ss : List Stream) (ns : List ℕ) (i at : ℕ) (h : i < length ss) where

@@ -14,7 +14,7 @@ use Rattle.writer.specs.Written.{bitsIn, lengthsBits, payloadPieces, sum
 use Rattle.writer.specs.Write.{rowFits, slotsFit}
 use Rattle.writer.specs.Sizes.{rowBytes, lengthBytes, measureAll}
 use Rattle.writer.proofs.Pieces.{bits-append}
-use Rattle.writer.proofs.Rows.{and-true}
+use Rattle.kernel.proofs.Tests.{and-true}
 use Rattle.writer.proofs.TripElement.{sum-split}
 
 -- one subframe less

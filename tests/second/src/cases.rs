@@ -11,7 +11,7 @@ use crate::sync::{write_frame, HEADER, LONGEST_CAPTURE};
 
 /// The one slot that makes an element of one stream as long as can be, when no
 /// configuration is sent: a byte of flag and alignment, 32 of length.
-const LONGEST_SLOT: u64 = 8158;
+pub const LONGEST_SLOT: u64 = 8158;
 
 pub fn capture(seed: u64) -> Vec<u8> {
     let mut random = Random::new(seed);
@@ -189,7 +189,16 @@ fn start(tape: &mut Tape) -> Option<()> {
 }
 
 fn longest(tape: &mut Tape) -> Option<()> {
-    let mut record = draw::record(&mut tape.random);
+    let record = one_stream(&mut tape.random);
+    let first = lay_out(&record, true, &[0], &mut tape.random);
+    let longest = lay_out(&record, false, &[LONGEST_SLOT], &mut tape.random);
+    tape.frame(&first.bytes())?;
+    tape.frame(&longest.bytes())
+}
+
+/// One stream of slots with a length each, one subframe, no other data.
+pub fn one_stream(random: &mut Random) -> Record {
+    let mut record = draw::record(random);
     record.num_sub_frames = 0;
     record.num_program = 0;
     record.num_layer = Default::default();
@@ -197,15 +206,17 @@ fn longest(tape: &mut Tape) -> Option<()> {
     make_variable(&mut record.streams[0]);
     record.other_present = 0;
     record.other_bits = 0;
-    let first = lay_out(&record, true, &[0], &mut tape.random);
-    let longest = lay_out(&record, false, &[LONGEST_SLOT], &mut tape.random);
-    tape.frame(&first.bytes())?;
-    tape.frame(&longest.bytes())
+    record
 }
 
-/// 16 streams in 64 subframes with other data: the map is full.
 fn fullest(tape: &mut Tape) -> Option<()> {
-    let mut record = draw::record(&mut tape.random);
+    let element = full_map(&mut tape.random);
+    tape.frame(&element)
+}
+
+/// An element of 16 streams in 64 subframes with other data: the map is full.
+pub fn full_map(random: &mut Random) -> Vec<u8> {
+    let mut record = draw::record(random);
     record.num_sub_frames = 63;
     record.num_program = 1;
     record.num_layer = Default::default();
@@ -214,11 +225,8 @@ fn fullest(tape: &mut Tape) -> Option<()> {
     let first = record.streams[0];
     record.streams.fill(first);
     record.other_present = 1;
-    let lengths: Vec<u64> = (0..record.slot_count())
-        .map(|_| tape.random.below(3))
-        .collect();
-    let sheet = lay_out(&record, true, &lengths, &mut tape.random);
-    tape.frame(&sheet.bytes())
+    let lengths: Vec<u64> = (0..record.slot_count()).map(|_| random.below(3)).collect();
+    lay_out(&record, true, &lengths, random).bytes()
 }
 
 fn make_variable(stream: &mut Stream) {
@@ -226,14 +234,14 @@ fn make_variable(stream: &mut Stream) {
     stream.frame_length = 0;
 }
 
-fn framed(element: &[u8]) -> Vec<u8> {
+pub fn framed(element: &[u8]) -> Vec<u8> {
     let mut frame = vec![0; HEADER + element.len()];
     write_frame(element, &mut frame).expect("an element of 1 to 8191 bytes");
     frame
 }
 
 /// Bytes with syncs among them that mostly begin no frame.
-fn junk(random: &mut Random) -> Vec<u8> {
+pub fn junk(random: &mut Random) -> Vec<u8> {
     let count = random.between(1, 60) as usize;
     let mut junk = random.bytes(count);
     for place in 0..junk.len() {

@@ -1,18 +1,23 @@
 //! A second program for LOAS/LATM captures, written from document 01 alone.
 //! It shares no code with the library and is there to be compared with it.
 
+pub mod answers;
 pub mod bits;
+pub mod broken;
 pub mod capture;
 pub mod cases;
 pub mod damage;
 pub mod draw;
 pub mod layout;
 pub mod listing;
+pub mod maker;
 pub mod random;
 pub mod read;
 pub mod record;
 pub mod refusal;
 pub mod rows;
+pub mod script;
 pub mod summary;
 pub mod sync;
+pub mod words;
 pub mod write;

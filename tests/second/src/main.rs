@@ -1,12 +1,15 @@
 use second::sync::LONGEST_CAPTURE;
-use second::{cases, listing, summary};
+use second::{answers, cases, listing, maker, summary};
 use std::io::{self, Read, Write};
 use std::process::ExitCode;
 
 const USAGE: &str = "second listing < capture
 second summary < capture
 second capture SEED > capture
-second counts SEED...";
+second counts SEED...
+second answers < script
+second script SEED > script
+second count-script SEED...";
 
 fn main() -> ExitCode {
     let arguments: Vec<String> = std::env::args().skip(1).collect();
@@ -31,6 +34,9 @@ fn run(arguments: &[String]) -> Result<(), String> {
         }
         ("capture", [number]) => print(&cases::capture(seed(number)?)),
         ("counts", [_, ..]) => print(counts(rest)?.as_bytes()),
+        ("answers", []) => print(answers::answers(&all_input()?).as_bytes()),
+        ("script", [number]) => print(&maker::script(seed(number)?)),
+        ("count-script", [_, ..]) => print(count_script(rest)?.as_bytes()),
         _ => Err(USAGE.to_string()),
     }
 }
@@ -47,6 +53,15 @@ fn input() -> Result<(Vec<u8>, bool), String> {
     Ok((bytes, longer))
 }
 
+fn all_input() -> Result<Vec<u8>, String> {
+    let mut bytes = Vec::new();
+    io::stdin()
+        .lock()
+        .read_to_end(&mut bytes)
+        .map_err(|error| error.to_string())?;
+    Ok(bytes)
+}
+
 fn print(bytes: &[u8]) -> Result<(), String> {
     let mut output = io::stdout().lock();
     output
@@ -60,13 +75,28 @@ fn seed(text: &str) -> Result<u64, String> {
 }
 
 fn counts(seeds: &[String]) -> Result<String, String> {
+    let sums = sums(seeds, |seed| cases::counts(&cases::capture(seed)))?;
+    Ok(format!("accepted    {:>7}\n", sums[0]) + &refused_lines(&sums[..16], 2))
+}
+
+fn count_script(seeds: &[String]) -> Result<String, String> {
+    let sums = sums(seeds, |seed| answers::counts(&maker::script(seed)))?;
+    Ok(refused_lines(&sums, 1))
+}
+
+fn sums(seeds: &[String], counts: impl Fn(u64) -> [usize; 21]) -> Result<[usize; 21], String> {
     let mut sums = [0; 21];
     for text in seeds {
-        let counts = cases::counts(&cases::capture(seed(text)?));
         sums.iter_mut()
-            .zip(counts)
+            .zip(counts(seed(text)?))
             .for_each(|(sum, count)| *sum += count);
     }
-    let refused = (2..=15).map(|number| format!("refused {number:>2}  {:>7}\n", sums[number]));
-    Ok(format!("accepted    {:>7}\n", sums[0]) + &refused.collect::<String>())
+    Ok(sums)
+}
+
+fn refused_lines(sums: &[usize], first: usize) -> String {
+    let numbered = sums.iter().enumerate().skip(first);
+    numbered
+        .map(|(number, sum)| format!("refused {number:>2}  {sum:>7}\n"))
+        .collect()
 }

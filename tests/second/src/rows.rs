@@ -1,6 +1,6 @@
 //! The rows of a record, found through the table of programs and layers.
 
-use crate::record::{AudioConfig, Form, Record, LAYERS, PROGRAMS};
+use crate::record::{AudioConfig, Form, Frequency, Record, LAYERS, PROGRAMS, STREAMS};
 
 /// Stands in the table where there is no such program and layer.
 pub const NO_STREAM: u8 = 255;
@@ -27,7 +27,9 @@ pub fn table(record: &Record) -> Table {
     let mut stream = 0;
     for (layers, last) in table.iter_mut().zip(record.num_layer).take(programs) {
         for number in layers.iter_mut().take(last as usize + 1) {
-            *number = stream;
+            if usize::from(stream) < STREAMS {
+                *number = stream;
+            }
             stream += 1;
         }
     }
@@ -39,6 +41,11 @@ pub fn rows(record: &Record) -> Vec<Row> {
     if !record.is_sendable() {
         return Vec::new();
     }
+    rows_of_any(record)
+}
+
+/// As `rows`, also for a record that cannot be sent: what its own table has.
+pub fn rows_of_any(record: &Record) -> Vec<Row> {
     let table = table(record);
     let pairs = (0..PROGRAMS).flat_map(|program| (0..LAYERS).map(move |layer| (program, layer)));
     pairs
@@ -58,8 +65,8 @@ fn row(record: &Record, table: &Table, program: usize, layer: usize) -> Option<R
         layer,
         stream: usize::from(stream),
         core_type: audio.core_type,
-        core_hertz: audio.frequency.hertz()?,
-        output_hertz: output_hertz(audio)?,
+        core_hertz: hertz(audio.frequency),
+        output_hertz: output_hertz(audio),
         sbr,
         ps,
         output_channels: channels(audio.channels),
@@ -72,24 +79,28 @@ fn flags(form: Form) -> (i8, i8) {
         Form::Type5(_) | Form::SbrOn(_) => (1, -1),
         Form::Type29(_) => (1, 1),
         Form::SbrOff => (0, -1),
-        Form::SbrOnPs(_, ps) => (1, ps as i8),
+        Form::SbrOnPs(_, ps) => (1, i8::from(ps != 0)),
     }
 }
 
-fn output_hertz(audio: &AudioConfig) -> Option<u64> {
+fn output_hertz(audio: &AudioConfig) -> u64 {
     match audio.form {
-        Form::None | Form::SbrOff => audio.frequency.hertz(),
+        Form::None | Form::SbrOff => hertz(audio.frequency),
         Form::Type5(extension)
         | Form::Type29(extension)
         | Form::SbrOn(extension)
-        | Form::SbrOnPs(extension, _) => extension.hertz(),
+        | Form::SbrOnPs(extension, _) => hertz(extension),
     }
 }
 
+fn hertz(frequency: Frequency) -> u64 {
+    frequency.hertz().unwrap_or(0)
+}
+
 fn channels(configuration: u64) -> u64 {
-    if configuration == 7 {
-        8
-    } else {
-        configuration
+    match configuration {
+        1..=6 => configuration,
+        7 => 8,
+        _ => 0,
     }
 }

@@ -9,7 +9,7 @@ use Rattle.writer.specs.Written.{sumOf}
 use Rattle.writer.specs.Write.{slotsFit}
 use Rattle.writer.specs.Sizes.{rowBytes, lengthBytes, measureOf}
 use Rattle.writer.specs.declared.Measure.{Measure}
-use Rattle.writer.proofs.Rows.{and-assoc}
+use Rattle.kernel.proofs.Tests.{and-assoc}
 use Rattle.writer.proofs.Subframes.{all-fits-turn, all-bytes-turn, all-sum-turn, all-measured, mul-less}
 use borrow.Author.Needs.{needs}
 use Rattle.writer.proofs.measure_all.Statement.{statement}

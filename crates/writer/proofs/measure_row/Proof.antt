@@ -8,7 +8,8 @@ use lib.ListN.{length, take, drop}
 use Rattle.writer.specs.Written.{sumOf}
 use Rattle.writer.specs.Write.{rowFits}
 use Rattle.writer.specs.Sizes.{rowBytes}
-use Rattle.writer.proofs.Rows.{array-fits-turn, array-bytes-turn, array-sum-turn, row-measured, and-assoc}
+use Rattle.writer.proofs.Rows.{array-fits-turn, array-bytes-turn, array-sum-turn, row-measured}
+use Rattle.kernel.proofs.Tests.{and-assoc}
 use borrow.Author.Needs.{needs}
 use Rattle.writer.proofs.measure_row.Statement.{statement}
 use Rattle.writer.proofs.measure_row.Tie as tie

@@ -1,9 +1,8 @@
 -- `config_writer::audio::put_asc` meets its contract.
 use native.Mathlib.Omega.{arith}
 use Rattle.kernel.specs.Bits.{bitsOf}
-use Rattle.kernel.proofs.Laid.{put-then}
+use Rattle.kernel.proofs.Laid.{put-then, put-three}
 use Rattle.asc.specs.Asc.{ascBits}
-use Rattle.config_writer.proofs.Chains.{put-three}
 use borrow.Author.Needs.{needs}
 use Rattle.config_writer.proofs.audio.put_asc.Statement.{statement}
 use Rattle.config_writer.proofs.audio.put_asc.Tie as tie

@@ -1,9 +1,8 @@
 -- `config_writer::audio::put_tail` meets its contract.
 use native.Mathlib.Omega.{arith}
 use Rattle.kernel.specs.Bits.{bitsOf}
-use Rattle.kernel.proofs.Laid.{put-then, put-none}
+use Rattle.kernel.proofs.Laid.{put-then, put-none, put-three}
 use Rattle.asc.specs.Asc.{tailBits}
-use Rattle.config_writer.proofs.Chains.{put-three}
 use borrow.Author.Needs.{needs}
 use Rattle.config_writer.proofs.audio.put_tail.Statement.{statement}
 use Rattle.config_writer.proofs.audio.put_tail.Tie as tie

@@ -1,0 +1,276 @@
+//! Scripts: the worked values through `answers`, and what the maker makes.
+
+mod common;
+
+use common::{concat, first_worked, held_by, Draft, CORE, PS, SBR, WORKED};
+use second::answers::{answers, counts};
+use second::broken;
+use second::draw;
+use second::maker::script;
+use second::random::Random;
+use second::record::{Form, Frequency, Record, Stream};
+use second::script::{Case, Cases};
+use second::words;
+
+fn answer(cases: &[Case]) -> String {
+    answers(&bytes(cases))
+}
+
+fn bytes(cases: &[Case]) -> Vec<u8> {
+    let mut script = Vec::new();
+    cases.iter().for_each(|case| case.put(&mut script));
+    script
+}
+
+fn read(element: &[u8]) -> Case {
+    Case::Read {
+        room: 4400,
+        element: element.to_vec(),
+    }
+}
+
+fn hold(record: &Record) -> Case {
+    Case::Hold {
+        present: true,
+        record: Box::new(record.clone()),
+    }
+}
+
+const FIRST: &str = "accepted, items 5, fields 17, configuration sent
+  1 0 0 1
+  2 0 1 44
+  3 0 45 8
+  4 0 53 16
+  6 0 69 3
+map kept
+";
+const SECOND: &str = "accepted, items 4, fields 2, configuration held
+  1 0 0 1
+  3 0 1 8
+  4 0 9 0
+  6 0 9 7
+map kept
+";
+
+#[test]
+fn the_worked_elements() {
+    let cases = [
+        read(&[0x80, 0x00]),
+        read(first_worked()),
+        Case::Rows,
+        read(&[0x80, 0x00]),
+        read(&[0x80]),
+        read(&[0x80, 0x00, 0x00]),
+    ];
+    let expected = [
+        "refused, 4 at bit 0, fields 1\nmap kept\n",
+        FIRST,
+        "row 0 0 2 48000 48000 -1 -1 2\n",
+        SECOND,
+        "refused, 3 at bit 1, fields 1\nmap kept\n",
+        "refused, 15 at bit 16, fields 2\nmap kept\n",
+    ];
+    assert_eq!(answer(&cases), expected.concat());
+}
+
+/// The bytes of the script itself, apart from `Case::put`.
+#[test]
+fn a_script_by_its_bytes() {
+    let mut script = vec![b'R', 0x11, 0x10, 0, 9];
+    script.extend(first_worked());
+    script.extend([b'W', b'R', 0x11, 0x0F, 0, 1, 0x80]);
+    script.extend([b'S', 0, 0, 0, 1, 0, 0, 17]);
+    script.extend(WORKED);
+    script.extend([
+        b'P', 1, 0, 10, 0, 1, 0, 0, 0, 2, 0, 0, 2, 0xAB, 0xCD, 0, 0, 0,
+    ]);
+    script.extend([b'F', 0, 5, 0, 0, 2, 0x80, 0x00]);
+    script.extend([b'F', 0, 4, 0, 0, 2, 0x80, 0x00]);
+    let whole = answers(&script);
+    let expected = [
+        FIRST,
+        "row 0 0 2 48000 48000 -1 -1 2\n",
+        "refused, 1 at bit 0, fields 0\nmap kept\n",
+        "found 12 2\n",
+        "done 9\n200011901fe0155e68\noutput kept\n",
+        "done 5\n56e0028000\noutput kept\n",
+        "refused, 19 at bit 0, fields 0\noutput kept\n",
+    ];
+    assert_eq!(whole, expected.concat());
+    script.extend([b'x', b'W']);
+    assert_eq!(answers(&script), whole);
+}
+
+/// A record put together word by word.
+#[test]
+fn the_words_of_a_record() {
+    let mut expected = vec![0; words::WORDS];
+    let mut put = |at: usize, values: &[u32]| {
+        expected[at..at + values.len()].copy_from_slice(values);
+    };
+    put(0, &[1, 0, 256, 1, 5, 1, 1]);
+    put(22, &[2, 0, 6, 1, 1, 0, 0, 5, 1, 48000, 1, 0, 255, 0]);
+    put(36, &[4, 1, 7350, 7, 0, 0, 0, 3, 0, 0, 0, 1, 0, 511]);
+    put(50, &[1, 0, 3, 2, 0, 0, 0, 2, 0, 4, 0, 0, 3, 0]);
+    put(246, &[1, 70000, 1, 254]);
+    let record = words::record(&expected).unwrap();
+    assert!(record.is_sendable());
+    assert_eq!(record.stream_count(), 3);
+    let audio = |stream: usize| &record.streams[stream].audio;
+    assert_eq!(audio(0).form, Form::SbrOnPs(Frequency::Hertz(48000), 1));
+    assert_eq!(audio(0).frame_length_flag, 1);
+    assert_eq!(audio(1).frequency, Frequency::Hertz(7350));
+    assert_eq!(audio(1).form, Form::SbrOff);
+    assert_eq!(record.streams[1].fixed_slot(), Some(531));
+    assert_eq!(audio(2).form, Form::Type29(Frequency::Index(4)));
+    assert_eq!(record.streams[3], Stream::default());
+    assert_eq!(words::words(&record), expected);
+}
+
+#[test]
+fn words_and_records_are_the_same() {
+    let mut random = Random::new(8);
+    for _ in 0..200 {
+        let record = draw::record(&mut random);
+        assert_eq!(words::record(&words::words(&record)), Some(record));
+    }
+}
+
+#[test]
+fn asc_len_through_answers() {
+    let sbr = Draft::version1(37, &concat(&[&CORE, &SBR]));
+    let ps = Draft::version1(49, &concat(&[&CORE, &SBR, &PS]));
+    for (draft, row) in [
+        (&sbr, "row 0 0 2 24000 48000 1 -1 1\n"),
+        (&ps, "row 0 0 2 24000 48000 1 1 1\n"),
+    ] {
+        assert!(answer(&[read(&draft.bytes()), Case::Rows]).ends_with(row));
+    }
+    let short = sbr.with("asc len", 36).bytes();
+    assert_eq!(
+        answer(&[read(&short)]),
+        "refused, 10 at bit 70, fields 20\nmap kept\n"
+    );
+}
+
+/// Rows of records that 16 refuses, and nothing held where they are.
+#[test]
+fn rows_of_broken_records() {
+    let mut record = held_by(first_worked());
+    record.num_program = 0xFFFF_FFFF;
+    record.num_layer[1] = 7;
+    record.num_layer[2] = 7;
+    let text = answer(&[hold(&record), Case::Rows, read(&[0x80, 0x00])]);
+    assert_eq!(text.lines().count(), 16 + 2);
+    assert!(text.contains("row 2 6 0 96000 96000 -1 -1 0\n"));
+    assert!(!text.contains("row 2 7") && !text.contains("row 3"));
+    assert!(text.ends_with("refused, 4 at bit 0, fields 1\nmap kept\n"));
+    let mut record = held_by(first_worked());
+    record.streams[0].audio.frequency = Frequency::Index(13);
+    record.streams[0].audio.form = Form::SbrOnPs(Frequency::Hertz(0xFFFF_FFFF), 256);
+    record.streams[0].audio.channels = 8;
+    assert_eq!(
+        answer(&[hold(&record), Case::Rows]),
+        "row 0 0 2 0 4294967295 1 1 0\n"
+    );
+}
+
+#[test]
+fn cut_cases_print_nothing() {
+    let record = held_by(first_worked());
+    let write = Case::Write {
+        send: true,
+        room: 9,
+        lengths: vec![2],
+        payload: vec![0xAB, 0xCD],
+        other: Vec::new(),
+    };
+    let hunt = Case::Hunt {
+        start: 0,
+        capture: WORKED.to_vec(),
+    };
+    for case in [hold(&record), read(first_worked()), write, hunt] {
+        let whole = bytes(&[case]);
+        for end in 0..whole.len() {
+            assert_eq!(answers(&whole[..end]), "");
+        }
+    }
+}
+
+#[test]
+fn ways_are_refused_in_every_script() {
+    for seed in 1..=3 {
+        let script = script(seed);
+        let broken = Cases::new(&script)
+            .filter(|case| matches!(case, Case::Hold { record, .. } if !record.is_sendable()));
+        assert_eq!(broken.count(), broken::ways().len());
+    }
+}
+
+#[test]
+fn scripts_are_made_again_and_never_too_long() {
+    for seed in 1..=10 {
+        let script = script(seed);
+        assert!(script.len() < 2_000_000);
+        assert_eq!(script, second::maker::script(seed));
+        let cases: Vec<Case> = Cases::new(&script).collect();
+        assert!((300..=700).contains(&cases.len()), "{}", cases.len());
+        assert_eq!(bytes(&cases), script);
+        assert!(!answers(&script).contains("changed"));
+    }
+}
+
+#[test]
+fn every_script_meets_every_refusal() {
+    let mut sums = [0; 21];
+    for seed in 1..=5 {
+        let counts = counts(&script(seed));
+        for (number, count) in counts.into_iter().enumerate().skip(1) {
+            assert!(count > 0, "seed {seed}, refusal {number}");
+            sums[number] += count;
+        }
+    }
+    for (number, sum) in sums.iter().enumerate().skip(1) {
+        assert!(*sum >= 10, "refusal {number} is met {sum} times");
+    }
+}
+
+#[test]
+fn scripts_hold_the_edges() {
+    let script = script(1);
+    let cases: Vec<Case> = Cases::new(&script).collect();
+    let has = |wanted: &dyn Fn(&Case) -> bool| cases.iter().any(wanted);
+    for rooms in [0, 4367, 4368, 4400] {
+        assert!(has(
+            &|case| matches!(case, Case::Read { room, .. } if *room == rooms)
+        ));
+    }
+    for size in [0, 8191, 8192] {
+        assert!(has(
+            &|case| matches!(case, Case::Read { element, .. } if element.len() == size)
+        ));
+    }
+    for size in [0, 65536, 65537] {
+        assert!(has(
+            &|case| matches!(case, Case::Hunt { capture, .. } if capture.len() == size)
+        ));
+    }
+    for size in [0, 1, 8191, 8192] {
+        assert!(has(
+            &|case| matches!(case, Case::Frame { element, .. } if element.len() == size)
+        ));
+    }
+    assert!(has(&|case| matches!(
+        case,
+        Case::Hunt {
+            start: u32::MAX,
+            ..
+        }
+    )));
+    assert!(has(
+        &|case| matches!(case, Case::Write { lengths, .. } if lengths.contains(&u32::MAX))
+    ));
+    let text = answers(&script);
+    assert!(text.contains("accepted, items 1092,"));
+    assert!(text.contains("done 8191\n") && text.contains("done 8194\n"));
+}
