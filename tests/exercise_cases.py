@@ -1,9 +1,16 @@
 #!/usr/bin/env python3
-"""Lays out elements field by field and writes them, with the answers that document 01 asks for, as crates/exercise/stdin and stdout.
+"""Writes crates/exercise/stdin, a script of cases (docs/SCRIPT.md), and crates/exercise/stdout, the answers that document 01 asks for:
 
-Nothing here reads an element: the place, width and count of each item are known because it was laid out here.
+    (cd tests/second && cargo build --offline --release)
+    python3 tests/exercise_cases.py tests/second/target/release/second
+
+First come elements that are laid out here field by field. Nothing here reads an element: the place, width and count of each item are known
+because it was laid out here, and the second program must answer the same. Then come cases that the second program makes from fixed seeds, with
+its answers.
 """
 import pathlib
+import subprocess
+import sys
 
 from layout import Audio, Element, Index, Layer, Mux, held_element, sent_element
 
@@ -20,8 +27,16 @@ def refused(number, place, count):
 cases = []
 
 
-def case(data, answer):
-    cases.append((data, answer))
+def read(data, room=4368):
+    return b"R" + room.to_bytes(2, "big") + len(data).to_bytes(2, "big") + data
+
+
+def hunt(start, capture):
+    return b"S" + start.to_bytes(4, "big") + len(capture).to_bytes(3, "big") + capture
+
+
+def case(data, answer, room=4368):
+    cases.append((read(data, room), answer + "map kept\n"))
 
 
 def good(element, sent):
@@ -105,6 +120,58 @@ good(longest, True)
 case(longest.data() + b"\0", refused(2, 0, 0))
 case(longest.data()[:-1], refused(3, 45 + 8 * 32, 16 + 32))
 
-home = pathlib.Path(__file__).resolve().parent.parent / "crates" / "exercise"
-(home / "stdin").write_bytes(b"".join(len(data).to_bytes(2, "big") + data for data, _ in cases))
-(home / "stdout").write_text("".join(answer for _, answer in cases))
+# a map one number too short, before anything else is looked at, and one longer than need be
+case(LISTED, refused(1, 0, 0), room=4367)
+case(b"", refused(1, 0, 0), room=0)
+case(bytes.fromhex("80 00"), accepted([(1, 0, 0, 1), (3, 0, 1, 8), (4, 0, 9, 0), (6, 0, 9, 7)], 2, False), room=4400)
+
+# a frame at the very end of the longest capture, and one byte more
+FRAME = bytes.fromhex("56 E0 02 80 00")
+cases.append((hunt(0, bytes(65531) + FRAME), "found 65531 2\n"))
+cases.append((hunt(0, FRAME + FRAME + bytes(65527)), refused(20, 0, 0)))
+
+
+def size(script, at):
+    """The bytes of the case at a place."""
+
+    def number(place, width):
+        return int.from_bytes(script[at + place : at + place + width], "big")
+
+    def sized(place):
+        return place + 3 + number(place, 3)
+
+    kind = script[at : at + 1]
+    if kind == b"P":
+        return sized(sized(6 + 4 * number(4, 2)))
+    return {b"H": 1002, b"R": 5 + number(3, 2), b"W": 1, b"S": sized(5), b"F": sized(3)}[kind]
+
+
+def made(second, seed, kinds, most):
+    """The cases of a seed that are of these kinds and not too long, with nothing held before them."""
+    script = subprocess.run([second, "script", str(seed)], check=True, stdout=subprocess.PIPE).stdout
+    yield b"H" + bytes(1001)
+    at = 0
+    while at < len(script):
+        end = at + size(script, at)
+        if script[at : at + 1] in kinds and end - at <= most:
+            yield script[at:end]
+        at = end
+
+
+def main(second):
+    script = b"".join(data for data, _ in cases)
+    laid = "".join(answer for _, answer in cases)
+    for seed in (1, 2):
+        script += b"".join(made(second, seed, b"HRWSPF", 9000))
+    for seed in range(3, 9):
+        script += b"".join(made(second, seed, b"RW", 400))
+    answers = subprocess.run([second, "answers"], check=True, input=script, stdout=subprocess.PIPE).stdout.decode()
+    assert answers.startswith(laid), "the second program does not answer what was laid out here"
+    home = pathlib.Path(__file__).resolve().parent.parent / "crates" / "exercise"
+    (home / "stdin").write_bytes(script)
+    (home / "stdout").write_text(laid + answers[len(laid) :])
+
+
+if len(sys.argv) != 2 or sys.argv[1].startswith("-"):
+    sys.exit(__doc__)
+main(sys.argv[1])

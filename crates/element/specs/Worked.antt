@@ -75,10 +75,10 @@ abbrev minusOne : ℤ
 minusOne = negsuc 0
 
 -- the first element of the listing, and its configuration
-abbrev firstBytes : List ℕ
+abbrev pub firstBytes : List ℕ
 firstBytes = 0x20 ∷ 0x00 ∷ 0x11 ∷ 0x90 ∷ 0x1F ∷ 0xE0 ∷ 0x15 ∷ 0x5E ∷ 0x68 ∷ []
 
-abbrev first : Record
+abbrev pub first : Record
 first = record {
   version = 0;
   variant = 0;

@@ -1,30 +1,33 @@
 -- What `write` answers, by its tests.
 use mathlib.Core.Path.{_≡_, refl, sym, _∙_, ap}
 use mathlib.Core.Bool.{Bool, true, false, cond, _&&_}
+use mathlib.Core.Logic.{_⊎_, inl, inr}
 use mathlib.Core.List.{List, [], _∷_, _++_, append-nil, append-assoc}
-use Prim.Native.Nat.{ℕ, _+_, _-_, _*_, _/_, _%_, _≤_, _<_}
-use native.Mathlib.Nat.{mul-le-mul-left}
+use Prim.Native.Nat.{ℕ, zero, suc, _+_, _-_, _*_, _/_, _%_, _≤_, _<_}
+use native.Mathlib.Nat.{zero-add, zero-mul, suc-mul, mul-le-mul-left}
 use native.Mathlib.Omega.{arith}
 use borrow.Author.Tests.{eq-eqb, ne-eqb, eqb-true, lt-ltb, le-ltb}
 use lib.Dec.{eqb}
-use lib.ListN.{length, take, drop, length-append}
-use lib.Seq.{length-take-le}
+use lib.ListN.{length, getD, take, drop, length-append}
+use lib.Seq.{getD-drop, length-take-le}
 use Rattle.kernel.specs.Answer.{unread}
 use Rattle.kernel.specs.Bits.{bitsOf, Put}
-use Rattle.kernel.proofs.Tests.{both}
+use Rattle.kernel.proofs.Tests.{both, or-right}
+use Rattle.records.specs.declared.Stream.{Stream}
 use Rattle.records.specs.declared.Record.{Record}
+use Rattle.records.specs.Blank.{noStream}
 use Rattle.records.specs.Table.{streamsIn}
 use Rattle.records.specs.Valid.{validOf}
 use Rattle.records.proofs.Apart.{RecordOk, record-ok}
-use Rattle.config.specs.Mux.{muxBits}
 use Rattle.element.specs.Mux.{streamsOf}
 use Rattle.writer.specs.declared.Measure.{Measure}
 use Rattle.writer.specs.declared.Written.the-variants.{Done, Refused}
 use Rattle.writer.specs.Written.{Piece, bitsIn, sumOf, subframePieces, configPieces, Sent, contentPieces, otherPieces, alignment, elementBits, sizeOf}
-use Rattle.writer.specs.Write.{slotsFit, otherBytes, fits, writtenOf, outAfter}
+use Rattle.writer.specs.Write.{slotFits, rowFits, slotsFit, otherBytes, fits, writtenOf, outAfter}
 use Rattle.writer.specs.Sizes.{lengthBytes, measureAll, frontBits, otherBits}
+use Rattle.writer.specs.Claims.{RightSizes}
 use Rattle.writer.proofs.Pieces.{bits-append}
-use Rattle.writer.proofs.Whole.{Fits, fits-are, slotsIn, sentBits, content-length, bits-length, whole-bytes}
+use Rattle.writer.proofs.Whole.{Fits, fits-are, slotsIn, content-length, bits-length, whole-bytes}
 
 module _ (w : Sent) (room : ℕ) where
   pub written-16 : validOf (w .config) ≡ false → Refused (unread 16) ≡ writtenOf w room
@@ -57,6 +60,40 @@ module _ (w : Sent) (count : ℕ) (some : count ≡ length (streamsOf (w .config
       let e : length (w .lengths) ≡ (w .config .subframes + 1) * length (streamsOf (w .config)) = rw (sym some) n in
       rw (eq-eqb (length (w .lengths)) _ e, e)
 
+-- ---- what it does not
+
+slot-fits : (s : Stream) (n : ℕ) → (s .kind ≡ 0) ⊎ (n ≡ s .slot + 20) → slotFits s n ≡ true
+slot-fits s n (inl e) = rw (eq-eqb (s .kind) 0 e)
+slot-fits s n (inr e) = or-right (eqb (s .kind) 0) (eqb n (s .slot + 20)) (eq-eqb n (s .slot + 20) e)
+
+next-slot : (ns : List ℕ) (i : ℕ) → getD (drop 1 ns) i 0 ≡ getD ns (suc i) 0
+next-slot [] i = refl
+next-slot (n ∷ ns) i = refl
+
+row-fits : (ss : List Stream) (ns : List ℕ) → ((i : ℕ) → i < length ss → slotFits (getD ss i noStream) (getD ns i 0) ≡ true) → rowFits ss ns ≡ true
+unfolding rowFits
+row-fits [] ns h = refl
+row-fits (s ∷ ss) ns h = rw (h 0 (omega arith), row-fits ss (drop 1 ns) (λ i l. rw (next-slot ns i) (h (suc i) (omega (arith, l)))))
+
+slots-fit : (n : ℕ) (ss : List Stream) (ns : List ℕ)
+    → ((j i : ℕ) → j < n → i < length ss → slotFits (getD ss i noStream) (getD ns (j * length ss + i) 0) ≡ true) → slotsFit n ss ns ≡ true
+unfolding slotsFit
+slots-fit zero ss ns h = refl
+slots-fit (suc n) ss ns h =
+    let k = length ss in
+    let here : (i : ℕ) → 0 * k + i ≡ i = λ i. rw (zero-mul k) (zero-add i) in
+    let behind : (j i : ℕ) → k + (j * k + i) ≡ suc j * k + i = λ j i. rw (suc-mul j k) (omega arith) in
+    let a = row-fits ss ns (λ i l. rw (here i) at (h 0 i (omega arith) l)) in
+    let b = slots-fit n ss (drop k ns) (λ j i m l. rw (getD-drop k ns (j * k + i) 0, behind j i) (h (suc j) i (omega (arith, m)) l)) in
+    rw (a, b)
+
+pub right-fits : (w : Sent) → RightSizes w → fits w ≡ true
+right-fits w r =
+    let ss = streamsOf (w .config) in
+    let a = eq-eqb (length (w .lengths)) ((w .config .subframes + 1) * length ss) (r .number) in
+    let b = slots-fit (w .config .subframes + 1) ss (w .lengths) (λ j i k l. slot-fits (getD ss i noStream) (getD (w .lengths) (j * length ss + i) 0) (r .slots j i (omega (arith, k)) l)) in
+    rw (a, b, eq-eqb (length (w .payload)) (sumOf (length (w .lengths)) (w .lengths)) (r .payloads), eq-eqb (length (w .other)) (otherBytes (w .config)) (r .others))
+
 -- as many streams as the record has
 pub streams-count : (r : Record) {x : ℕ} → validOf r ≡ true → length (r .streams) ≡ 16 → x ≡ streamsIn (r .layers) (r .programs) 16 → x ≡ length (streamsOf r)
 streams-count r v l e =
@@ -69,12 +106,12 @@ bits-are : (r : Record) → validOf r ≡ true → (b : Bool) → eqb (r .other)
 bits-are r v true e = refl
 bits-are r v false e = sym (record-ok r v .bits e)
 
-pub size-is : (w : Sent) → validOf (w .config) ≡ true → fits w ≡ true
-    → (1 + cond (w .send) (length (muxBits (w .config))) 0
-    + (8 * lengthBytes (w .config .subframes + 1) (streamsOf (w .config)) (w .lengths) + 8 * length (w .payload)) + w .config .bits + 7) / 8 ≡ sizeOf w
-size-is w v h =
+pub size-is : (w : Sent) (lengths : ℕ) → validOf (w .config) ≡ true → fits w ≡ true
+    → lengths ≡ lengthBytes (w .config .subframes + 1) (streamsOf (w .config)) (w .lengths)
+    → (length (frontBits (w .send) (w .config)) + (8 * lengths + 8 * length (w .payload)) + w .config .bits + 7) / 8 ≡ sizeOf w
+size-is w lengths v h e =
     let f = fits-are w h in
-    omega (arith, content-length w f, bits-length w f, bits-are (w .config) v (eqb (w .config .other) 1) refl)
+    omega (arith, e, content-length w f, bits-length w f, bits-are (w .config) v (eqb (w .config .other) 1) refl)
 
 -- ---- the bits of its parts, one after the other
 

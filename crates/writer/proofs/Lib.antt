@@ -4,8 +4,9 @@ pub mod TripElement
 pub mod Contents
 pub mod Lengths
 pub mod Whole
-pub mod Theorems
 pub mod Rows
 pub mod Subframes
 pub mod Parts
 pub mod Answers
+pub mod Theorems
+pub mod Worked

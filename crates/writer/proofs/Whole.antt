@@ -28,7 +28,7 @@ use Rattle.writer.specs.declared.Written.{Written}
 use Rattle.writer.specs.declared.Written.the-variants.{Done, Refused}
 use Rattle.writer.specs.Written.{Piece, piece, bitsIn, itemsAt, sumOf, subframePieces, otherPieces, configPieces, Sent, contentPieces, alignment, pieces, elementBits, sizeOf}
 use Rattle.writer.specs.Write.{slotsFit, otherBytes, fits, writtenOf, outAfter}
-use Rattle.writer.specs.Sizes.{lengthBytes}
+use Rattle.writer.specs.Sizes.{lengthBytes, frontBits}
 use Rattle.writer.specs.Claims.{contentsOf, widthsOf, widths, Typed, ReadsBack}
 use Rattle.writer.proofs.Pieces.{bits-append, Spelt}
 use Rattle.writer.proofs.TripElement.{lastPieces, held-trip, sent-trip}
@@ -83,6 +83,9 @@ align-length : (at : ℕ) → length (bitsIn (alignment at ∷ [])) ≡ (8 - at 
 unfolding bitsIn
 align-length at = simp (length-append, length-bitsOf) (omega arith)
 
+front-some : (b : Bool) (r : Record) → 1 ≤ length (frontBits b r)
+front-some b r = simp (length-append, length-bitsOf) (omega arith)
+
 module _ (w : Sent) (f : Fits w) where
   abbrev pub total : ℕ
   total = (w .config .subframes + 1) * length (streamsOf (w .config))
@@ -96,23 +99,15 @@ module _ (w : Sent) (f : Fits w) where
   abbrev pub slotsIn : List Piece
   slotsIn = subframePieces (w .config .subframes + 1) (streamsOf (w .config)) (w .lengths) (w .payload)
 
-  abbrev pub sentBits : ℕ
-  sentBits = cond (w .send) (length (muxBits (w .config))) 0
-
-  config-length : (b : Bool) → length (bitsIn (configPieces b (w .config))) ≡ cond b (length (muxBits (w .config))) 0
-  unfolding bitsIn
-  config-length true = simp length-append (omega arith)
-  config-length false = refl
-
   -- up to other data
   pub content-length : length (bitsIn (contentPieces w))
-      ≡ 1 + sentBits + (8 * lengthBytes (w .config .subframes + 1) (streamsOf (w .config)) (w .lengths) + 8 * length (w .payload)) + cond (eqb (w .config .other) 1) (w .config .bits) 0
+      ≡ length (frontBits (w .send) (w .config)) + (8 * lengthBytes (w .config .subframes + 1) (streamsOf (w .config)) (w .lengths) + 8 * length (w .payload)) + cond (eqb (w .config .other) 1) (w .config .bits) 0
   unfolding bitsIn
   content-length =
       let s = slots-length (w .config .subframes + 1) (streamsOf (w .config)) (w .lengths) (w .payload) (omega (arith, whole-is)) in
       let o = other-length (eqb (w .config .other) 1) (w .config .bits) (w .other) enough-is in
       simp (bits-append (configPieces (w .send) (w .config)) (slotsIn ++ otherPieces (w .config) (w .other)), bits-append slotsIn (otherPieces (w .config) (w .other)), length-append, length-bitsOf)
-      (omega (arith, s, o, config-length (w .send), whole-is))
+      (omega (arith, s, o, whole-is))
 
   -- with alignment
   pub bits-length : length (elementBits w) ≡ length (bitsIn (contentPieces w)) + (8 - length (bitsIn (contentPieces w)) % 8) % 8
@@ -130,7 +125,7 @@ module _ (w : Sent) (f : Fits w) where
   other-few h = other-bound (eqb (w .config .other) 1) (w .config .bits) (f .enough) (omega (arith, content-length, bits-length))
 
   pub some-is : 1 ≤ sizeOf w
-  some-is = omega (arith, content-length, bits-length)
+  some-is = omega (arith, front-some (w .send) (w .config), content-length, bits-length)
 
 -- ---- it reads back
 

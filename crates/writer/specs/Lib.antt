@@ -2,4 +2,5 @@
 pub mod Written
 pub mod Write
 pub mod Claims
+pub mod Worked
 pub mod Sizes

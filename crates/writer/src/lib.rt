@@ -1,23 +1,27 @@
 // The writer of elements.
+mod measures;
+
 ghost use mathlib.Core.Path.{_≡_};
-ghost use mathlib.Core.Bool.{true, cond};
+ghost use mathlib.Core.Bool.{true};
 ghost use Prim.Native.Nat.{_+_, _-_, _*_, _/_, _%_, _≤_};
 ghost use lib.Dec.{eqb};
 ghost use lib.ListN.{length, take, drop};
 ghost use Rattle.kernel.specs.Bits.{bitsOf, Put};
 ghost use Rattle.records.specs.Table.{streamsIn};
 ghost use Rattle.records.specs.Valid.{validOf};
-ghost use Rattle.config.specs.Mux.{muxBits};
 ghost use Rattle.element.specs.Mux.{streamsOf};
 ghost use Rattle.writer.specs.Written.{bitsIn, toSend, elementBits, sizeOf, lengthBits, slotBits, lengthsBits, sumOf, subframePieces};
-ghost use Rattle.writer.specs.Write.{slotFits, otherBytes, fits, writtenOf, outAfter};
-ghost use Rattle.writer.specs.Sizes.{slotBytes, lengthBytes, measureOf, measureAll, frontBits, otherBits};
+ghost use Rattle.writer.specs.Write.{fits, writtenOf, outAfter};
+ghost use Rattle.writer.specs.Sizes.{lengthBytes, frontBits, otherBits};
 use config_writer::put_mux;
 use kernel::Refusal;
 use kernel::put;
 use kernel::put_bytes;
 use kernel::put_some;
 use kernel::unread;
+use measures::measure_all;
+use measures::measure_row;
+use measures::other_bytes;
 use records::Record;
 use records::Stream;
 use records::streams_in;
@@ -29,78 +33,11 @@ pub enum Written {
     Refused(Refusal),
 }
 
-fn slot_fits(s: Stream, n: u32) -> bool
-    ensures { λ r. ⌜ r ≡ slotFits s n ⌝ }
-{
-    (s.kind == 0) | (n as usize == s.slot as usize + 20)
-}
-
-fn slot_bytes(s: Stream, n: u32) -> usize
-    ensures is { λ r. ⌜ r ≡ slotBytes s n ⌝ }
-    ensures small { λ r. ⌜ r ≤ 16843010 ⌝ }
-{
-    if s.kind == 0 {
-        return (n / 255) as usize + 1;
-    }
-    0
-}
-
 // Whether fixed slots have their size, and how many bytes the lengths and the payload have.
 struct Measure {
     fits: bool,
     lengths: usize,
     payload: usize,
-}
-
-// Of the slots of one subframe.
-fn measure_row(streams: [Stream; 16], count: usize, ns: &[u32], from: usize) -> Measure
-    requires { ⌜ (count ≤ 16) × (from + count ≤ length (now ns)) ⌝ }
-    ensures is { λ r. ⌜ r ≡ measureOf (take count streams) (drop from (now (ns .entry))) ⌝ }
-    ensures small { λ r. ⌜ (r .lengths ≤ 269488160) × (r .payload ≤ 68719476736) ⌝ }
-{
-    let mut fits = true;
-    let mut lengths: usize = 0;
-    let mut payload: usize = 0;
-    let mut i: usize = 0;
-    while i < count {
-        let s = streams[i];
-        let n = ns[from + i];
-        fits = fits & slot_fits(s, n);
-        lengths += slot_bytes(s, n);
-        payload += n as usize;
-        i += 1;
-    }
-    Measure {
-        fits: fits,
-        lengths: lengths,
-        payload: payload,
-    }
-}
-
-// Of the slots of n subframes.
-fn measure_all(streams: [Stream; 16], count: usize, n: usize, ns: &[u32]) -> Measure
-    requires { ⌜ (count ≤ 16) × (n ≤ 64) × (length (now ns) ≡ n * count) ⌝ }
-    ensures is { λ r. ⌜ r ≡ measureAll n (take count streams) (now (ns .entry)) ⌝ }
-    ensures small { λ r. ⌜ (r .lengths ≤ 17247242240) × (r .payload ≤ 4398046511104) ⌝ }
-{
-    let mut fits = true;
-    let mut lengths: usize = 0;
-    let mut payload: usize = 0;
-    let mut from: usize = 0;
-    let mut left = n;
-    while 0 < left {
-        let row = measure_row(streams, count, ns, from);
-        fits = fits & row.fits;
-        lengths += row.lengths;
-        payload += row.payload;
-        from += count;
-        left -= 1;
-    }
-    Measure {
-        fits: fits,
-        lengths: lengths,
-        payload: payload,
-    }
 }
 
 // MuxSlotLengthBytes.
@@ -178,19 +115,6 @@ fn put_subframes(
     to
 }
 
-// The bits of the configuration, where one is sent: those that it would be put into.
-fn config_bits(send: bool, r: Record) -> usize
-    requires { ⌜ (r .programs ≤ 15) × (streamsIn (r .layers) (r .programs) 16 ≤ 16) ⌝ }
-    ensures is { λ x. ⌜ x ≡ cond send (length (muxBits r)) 0 ⌝ }
-    ensures small { λ x. ⌜ x ≤ 3000 ⌝ }
-{
-    if send {
-        let mut none = [0; 1];
-        return put_mux(&mut none, 0, r);
-    }
-    0
-}
-
 // useSameStreamMux, and the configuration if sent.
 fn put_front(out: &mut [u8], send: bool, r: Record) -> usize
     requires { ⌜ (r .programs ≤ 15) × (streamsIn (r .layers) (r .programs) 16 ≤ 16) ⌝ }
@@ -250,16 +174,17 @@ fn put_element(
     put_alignment(out, c)
 }
 
-// The bytes of the element, of which the lengths have so many.
-fn size_of(r: Record, send: bool, lengths: usize, payload: usize) -> usize
+// The bytes of the element, of which the lengths have so many. The front is counted by putting it, over bytes that nobody reads.
+fn size_of(scratch: &mut [u8], r: Record, send: bool, lengths: usize, payload: usize) -> usize
     requires { ⌜ (r .programs ≤ 15) × (streamsIn (r .layers) (r .programs) 16 ≤ 16) × (lengths ≤ 17247242240) × (payload ≤ 4398046511104) ⌝ }
-    ensures { λ x. ⌜ x ≡ (1 + cond send (length (muxBits r)) 0 + (8 * lengths + 8 * payload) + r .bits + 7) / 8 ⌝ }
+    ensures { λ x. ⌜ x ≡ (length (frontBits send r) + (8 * lengths + 8 * payload) + r .bits + 7) / 8 ⌝ }
 {
-    (1 + config_bits(send, r) + (8 * lengths + 8 * payload) + r.bits as usize + 7) / 8
+    (put_front(scratch, send, r) + (8 * lengths + 8 * payload) + r.bits as usize + 7) / 8
 }
 
 // Refusals 18 and 19, or the element.
 fn write_fitting(
+    scratch: &mut [u8],
     r: Record,
     send: bool,
     lengths: usize,
@@ -272,7 +197,7 @@ fn write_fitting(
     ensures reply { λ x. ⌜ x ≡ writtenOf (toSend r send (now (ns .entry)) (now (payload .entry)) (now (other .entry))) (length (now (out .entry))) ⌝ }
     ensures bytes { λ x. ⌜ now (out .exit) ≡ outAfter (toSend r send (now (ns .entry)) (now (payload .entry)) (now (other .entry))) (now (out .entry)) x ⌝ }
 {
-    let size = size_of(r, send, lengths, payload.len());
+    let size = size_of(scratch, r, send, lengths, payload.len());
     if size > 8191 {
         return Written::Refused(unread(18));
     }
@@ -281,15 +206,6 @@ fn write_fitting(
     }
     put_element(out, r, send, ns, payload, other);
     Written::Done(size)
-}
-
-fn other_bytes(r: Record) -> usize
-    ensures { λ x. ⌜ x ≡ otherBytes r ⌝ }
-{
-    if r.other == 1 {
-        return (r.bits as usize + 7) / 8;
-    }
-    0
 }
 
 // Refusal 17, or what follows it.
@@ -314,7 +230,8 @@ fn write_valid(
     }
     let m = measure_all(streams, count, n, ns);
     if m.fits & ((payload.len() == m.payload) & (other.len() == other_bytes(r))) {
-        return write_fitting(r, send, m.lengths, ns, payload, other, out);
+        let mut scratch = [0; 1];
+        return write_fitting(&mut scratch, r, send, m.lengths, ns, payload, other, out);
     }
     Written::Refused(unread(17))
 }

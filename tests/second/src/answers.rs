@@ -28,6 +28,29 @@ pub fn counts(script: &[u8]) -> [usize; 21] {
     counts
 }
 
+/// How many cases of each kind there are, in the order of docs/SCRIPT.md.
+pub fn kinds(script: &[u8]) -> [(char, usize); 6] {
+    ['H', 'R', 'W', 'S', 'P', 'F'].map(|kind| {
+        let same = |case: &Case| case.letter() == kind;
+        (kind, Cases::new(script).filter(same).count())
+    })
+}
+
+/// The first case that the text answers in another way: its number, from 0, and
+/// its kind. Text behind the last answer is as wrong as a case too many.
+pub fn difference(script: &[u8], text: &[u8]) -> Option<String> {
+    let mut held = Held::default();
+    let mut left = text;
+    for (number, case) in Cases::new(script).enumerate() {
+        let kind = case.letter();
+        match left.strip_prefix(held.answer(case).as_bytes()) {
+            Some(rest) => left = rest,
+            None => return Some(format!("case {number}, of kind {kind}")),
+        }
+    }
+    (!left.is_empty()).then(|| "the end: there is more text".to_string())
+}
+
 #[derive(Default)]
 struct Held {
     present: bool,

@@ -9,7 +9,9 @@ second capture SEED > capture
 second counts SEED...
 second answers < script
 second script SEED > script
-second count-script SEED...";
+second count-script SEED...
+second count-script < script
+second differ SCRIPT-FILE < answers";
 
 fn main() -> ExitCode {
     let arguments: Vec<String> = std::env::args().skip(1).collect();
@@ -36,7 +38,9 @@ fn run(arguments: &[String]) -> Result<(), String> {
         ("counts", [_, ..]) => print(counts(rest)?.as_bytes()),
         ("answers", []) => print(answers::answers(&all_input()?).as_bytes()),
         ("script", [number]) => print(&maker::script(seed(number)?)),
+        ("count-script", []) => print(count_input(&all_input()?).as_bytes()),
         ("count-script", [_, ..]) => print(count_script(rest)?.as_bytes()),
+        ("differ", [file]) => differ(file),
         _ => Err(USAGE.to_string()),
     }
 }
@@ -82,6 +86,21 @@ fn counts(seeds: &[String]) -> Result<String, String> {
 fn count_script(seeds: &[String]) -> Result<String, String> {
     let sums = sums(seeds, |seed| answers::counts(&maker::script(seed)))?;
     Ok(refused_lines(&sums, 1))
+}
+
+fn count_input(script: &[u8]) -> String {
+    let kinds =
+        answers::kinds(script).map(|(kind, count)| format!("kind {kind}      {count:>7}\n"));
+    kinds.concat() + &refused_lines(&answers::counts(script), 1)
+}
+
+/// Fails, and names the case, where the answers on standard input are others.
+fn differ(file: &str) -> Result<(), String> {
+    let script = std::fs::read(file).map_err(|error| format!("{file}: {error}"))?;
+    match answers::difference(&script, &all_input()?) {
+        Some(case) => Err(format!("the answers differ at {case}")),
+        None => Ok(()),
+    }
 }
 
 fn sums(seeds: &[String], counts: impl Fn(u64) -> [usize; 21]) -> Result<[usize; 21], String> {

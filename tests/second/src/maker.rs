@@ -254,10 +254,12 @@ impl Maker {
     fn reads(&mut self) {
         let sound = sound(&mut self.random);
         let room = self.room();
-        if !self.random.once_in(5) {
+        let sent = !self.random.once_in(5);
+        if sent {
             self.read(room, sound.sheet.bytes());
         }
-        if self.coin() {
+        // What an earlier group left may have rows that aren't clear.
+        if self.coin() && sent {
             self.put(Case::Rows);
         }
         self.follow(&sound.record);

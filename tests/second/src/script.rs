@@ -1,7 +1,12 @@
 //! The cases of a script, as docs/SCRIPT.md lays them out.
 
 use crate::record::Record;
+use crate::sync::LONGEST_CAPTURE;
 use crate::words::{self, WORDS};
+
+/// A program takes no more bytes behind a size, and no more cases.
+pub const MOST_BYTES: usize = LONGEST_CAPTURE + 1;
+pub const MOST_CASES: usize = 1_000_000;
 
 #[derive(Clone, Debug, PartialEq, Eq)]
 pub enum Case {
@@ -32,6 +37,17 @@ pub enum Case {
 }
 
 impl Case {
+    pub fn letter(&self) -> char {
+        match self {
+            Case::Hold { .. } => 'H',
+            Case::Read { .. } => 'R',
+            Case::Rows => 'W',
+            Case::Hunt { .. } => 'S',
+            Case::Write { .. } => 'P',
+            Case::Frame { .. } => 'F',
+        }
+    }
+
     pub fn put(&self, script: &mut Vec<u8>) {
         match self {
             Case::Hold { present, record } => {
@@ -85,14 +101,18 @@ fn put_long(script: &mut Vec<u8>, bytes: &[u8]) {
     script.extend(bytes);
 }
 
-/// The cases of a script up to the first that is cut or none at all.
+/// The cases of a script up to the first that is cut, too long or none at all.
 pub struct Cases<'a> {
     left: &'a [u8],
+    taken: usize,
 }
 
 impl<'a> Cases<'a> {
     pub fn new(script: &'a [u8]) -> Self {
-        Cases { left: script }
+        Cases {
+            left: script,
+            taken: 0,
+        }
     }
 
     fn bytes(&mut self, count: usize) -> Option<&'a [u8]> {
@@ -123,6 +143,9 @@ impl<'a> Cases<'a> {
 
     fn sized(&mut self, bytes: usize) -> Option<Vec<u8>> {
         let size = self.number(bytes)? as usize;
+        if size > MOST_BYTES {
+            return None;
+        }
         Some(self.bytes(size)?.to_vec())
     }
 
@@ -175,7 +198,8 @@ impl Iterator for Cases<'_> {
     type Item = Case;
 
     fn next(&mut self) -> Option<Case> {
-        let case = self.case();
+        let case = (self.taken < MOST_CASES).then(|| self.case()).flatten();
+        self.taken += 1;
         if case.is_none() {
             self.left = &[];
         }

@@ -3,7 +3,7 @@
 mod common;
 
 use common::{concat, first_worked, held_by, Draft, CORE, PS, SBR, WORKED};
-use second::answers::{answers, counts};
+use second::answers::{answers, counts, difference};
 use second::broken;
 use second::draw;
 use second::maker::script;
@@ -273,4 +273,54 @@ fn scripts_hold_the_edges() {
     let text = answers(&script);
     assert!(text.contains("accepted, items 1092,"));
     assert!(text.contains("done 8191\n") && text.contains("done 8194\n"));
+}
+
+#[test]
+fn sizes_beyond_the_limits_stop() {
+    let hunt = |size: usize| Case::Hunt {
+        start: 0,
+        capture: vec![0; size],
+    };
+    let refused = "refused, 20 at bit 0, fields 0\n";
+    assert_eq!(answer(&[hunt(65_537), Case::Rows]).lines().count(), 2);
+    assert_eq!(answer(&[hunt(65_537)]), refused);
+    assert_eq!(answer(&[hunt(65_538), hunt(0)]), "");
+}
+
+#[test]
+fn the_case_that_differs_is_named() {
+    let script = bytes(&[read(first_worked()), Case::Rows, read(&[0x80])]);
+    let text = answers(&script);
+    assert_eq!(difference(&script, text.as_bytes()), None);
+    let other = text.replace("48000", "44100");
+    let named = difference(&script, other.as_bytes());
+    assert_eq!(named.as_deref(), Some("case 1, of kind W"));
+    assert!(difference(&script, (text.clone() + "\n").as_bytes()).is_some());
+    assert!(difference(&script, &text.as_bytes()[..text.len() - 1]).is_some());
+}
+
+/// Where a numLayer above 7 is looked at, docs/SCRIPT.md says no rows.
+#[test]
+fn rows_are_asked_only_where_they_are_clear() {
+    for seed in 1..=250 {
+        let mut present = false;
+        let mut held = Record::default();
+        for case in Cases::new(&script(seed)) {
+            match case {
+                Case::Hold { present: p, record } => (present, held) = (p, *record),
+                Case::Read { room, element } => {
+                    let reading =
+                        second::read::read(&element, present.then_some(&held), usize::from(room));
+                    if let Some(reading) = reading.ok().filter(|reading| reading.sent) {
+                        (present, held) = (true, reading.held);
+                    }
+                }
+                Case::Rows => {
+                    let programs = held.num_layer.iter().take(held.num_program as usize + 1);
+                    assert!(programs.max() < Some(&8), "seed {seed}");
+                }
+                _ => {}
+            }
+        }
+    }
 }

@@ -12,8 +12,8 @@ use Rattle.asc.specs.Asc.{channelConfiguration}
 use Rattle.asc.proofs.channels_of.Statement.{statement}
 use Rattle.asc.proofs.channels_of.Tie as tie
 
-fetch-requires : tie.Need-fetch-requires
-fetch-requires c κs = search needs
+take-at-requires : tie.Need-take-at-requires
+take-at-requires c κs = search needs
 
 enum-known-four : tie.Need-enum-known-four
 enum-known-four c = search needs
@@ -25,7 +25,7 @@ returns : tie.Need-returns
 unfolding channelConfiguration
 returns c =
     let q = c .enum-told .given .1 in
-    ap toldFetched q ∙ so (off _ (got toldFetched _ _ _ _ (c .before .before .fetch .ensures) q))
+    ap toldFetched q ∙ so (off _ (got toldFetched _ _ _ _ (c .before .before .take-at .ensures) q))
 
 returns-2 : tie.Need-returns-2
 unfolding channelConfiguration
@@ -35,7 +35,7 @@ returns-2 c =
     let h : 1 ≤ v = omega arith in
     let g : v ≤ 7 = omega arith in
     let e : (leb 1 v && leb v 7) ≡ true = simp (le-leb 1 v h, le-leb v 7 g) in
-    so (on _ (got toldFetched _ _ _ _ (f .before .before .fetch .ensures) (f .four .given .1)) (holds _ _ e gives))
+    so (on _ (got toldFetched _ _ _ _ (f .before .before .take-at .ensures) (f .four .given .1)) (holds _ _ e gives))
 
 returns-3 : tie.Need-returns-3
 unfolding channelConfiguration
@@ -44,7 +44,7 @@ returns-3 c =
     let v : ℕ = f .four .given .0 .0 in
     let h : v < 1 = omega arith in
     let e : (leb 1 v && leb v 7) ≡ false = simp (lt-leb 1 v h) in
-    let s = got toldFetched _ _ _ _ (f .before .before .fetch .ensures) (f .four .given .1) in
+    let s = got toldFetched _ _ _ _ (f .before .before .take-at .ensures) (f .four .given .1) in
     so (on _ s (fails _ 4 e (took _ 4 s .moved)))
 
 returns-4 : tie.Need-returns-4
@@ -55,10 +55,10 @@ returns-4 c =
     let h : 1 ≤ v = omega arith in
     let g : 7 < v = omega arith in
     let e : (leb 1 v && leb v 7) ≡ false = simp (le-leb 1 v h, lt-leb v 7 g) in
-    let s = got toldFetched _ _ _ _ (f .before .before .fetch .ensures) (f .four .given .1) in
+    let s = got toldFetched _ _ _ _ (f .before .before .take-at .ensures) (f .four .given .1) in
     so (on _ s (fails _ 4 e (took _ 4 s .moved)))
 
 pub channels-of-spec : {M : Type 1} → statement M
 channels-of-spec =
     tie.close
-    (tie.spec fetch-requires enum-known-four enum-told returns returns-2 returns-3 returns-4)
+    (tie.spec take-at-requires enum-known-four enum-told returns returns-2 returns-3 returns-4)

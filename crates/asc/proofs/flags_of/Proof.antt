@@ -8,8 +8,8 @@ use Rattle.asc.specs.Asc.{gaSpecificConfig}
 use Rattle.asc.proofs.flags_of.Statement.{statement}
 use Rattle.asc.proofs.flags_of.Tie as tie
 
-fetch-requires : tie.Need-fetch-requires
-fetch-requires c κs = search needs
+take-at-requires : tie.Need-take-at-requires
+take-at-requires c κs = search needs
 
 enum-known-a : tie.Need-enum-known-a
 enum-known-a c = search needs
@@ -24,12 +24,12 @@ returns : tie.Need-returns
 unfolding gaSpecificConfig
 returns c =
     let q = c .before .enum-told .given .1 in
-    ap refusal (c .why .ensures ∙ ap whyFetched q) ∙ so (off _ (got toldFetched _ _ _ _ (c .before .before .before .fetch .ensures) q))
+    ap refusal (c .why .ensures ∙ ap whyFetched q) ∙ so (off _ (got toldFetched _ _ _ _ (c .before .before .before .take-at .ensures) q))
 
 unset-of-requires : tie.Need-unset-of-requires
 unset-of-requires c κs =
     let f = c .before in
-    steady (got toldFetched _ _ _ _ (f .before .before .fetch .ensures) (f .a .given .1)) (omega arith)
+    steady (got toldFetched _ _ _ _ (f .before .before .take-at .ensures) (f .a .given .1)) (omega arith)
 
 enum-known-b : tie.Need-enum-known-b
 enum-known-b c = search needs
@@ -47,7 +47,7 @@ returns-2 c =
     let q = d .enum-told2 .given .1 in
     let f = d .before .before .before .before in
     ap refusal (c .why2 .ensures ∙ ap whyFetched q)
-    ∙ so (on _ (got toldFetched _ _ _ _ (f .before .before .fetch .ensures) (f .a .given .1))
+    ∙ so (on _ (got toldFetched _ _ _ _ (f .before .before .take-at .ensures) (f .a .given .1))
     (off _ (got toldFetched _ _ _ _ (d .before .before .unset-of .ensures) q)))
 
 unset-of-requires-2 : tie.Need-unset-of-requires-2
@@ -55,7 +55,7 @@ unset-of-requires-2 c κs =
     let g = c .before in
     let f = g .before .before .before .before in
     steady (got toldFetched _ _ _ _ (g .before .before .unset-of .ensures) (g .b .given .1))
-    (steady (got toldFetched _ _ _ _ (f .before .before .fetch .ensures) (f .a .given .1)) (omega arith))
+    (steady (got toldFetched _ _ _ _ (f .before .before .take-at .ensures) (f .a .given .1)) (omega arith))
 
 enum-known-d : tie.Need-enum-known-d
 enum-known-d c = search needs
@@ -74,7 +74,7 @@ returns-3 c =
     let g = d .before .before .before .before in
     let f = g .before .before .before .before in
     ap refusal (c .why3 .ensures ∙ ap whyFetched q)
-    ∙ so (on _ (got toldFetched _ _ _ _ (f .before .before .fetch .ensures) (f .a .given .1))
+    ∙ so (on _ (got toldFetched _ _ _ _ (f .before .before .take-at .ensures) (f .a .given .1))
     (on _ (got toldFetched _ _ _ _ (g .before .before .unset-of .ensures) (g .b .given .1))
     (off _ (got toldFetched _ _ _ _ (d .before .before .unset-of2 .ensures) q))))
 
@@ -84,7 +84,7 @@ returns-4 c =
     let h = c .before in
     let g = h .before .before .before .before in
     let f = g .before .before .before .before in
-    so (on _ (got toldFetched _ _ _ _ (f .before .before .fetch .ensures) (f .a .given .1))
+    so (on _ (got toldFetched _ _ _ _ (f .before .before .take-at .ensures) (f .a .given .1))
     (on _ (got toldFetched _ _ _ _ (g .before .before .unset-of .ensures) (g .b .given .1))
     (on _ (got toldFetched _ _ _ _ (h .before .before .unset-of2 .ensures) (h .d .given .1)) gives)))
 
@@ -92,7 +92,7 @@ pub flags-of-spec : {M : Type 1} → statement M
 flags-of-spec =
     tie.close
     (tie.spec
-    fetch-requires
+    take-at-requires
     enum-known-a
     enum-told
     why-requires

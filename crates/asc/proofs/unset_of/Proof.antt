@@ -8,8 +8,8 @@ use Rattle.asc.specs.Asc.{unset}
 use Rattle.asc.proofs.unset_of.Statement.{statement}
 use Rattle.asc.proofs.unset_of.Tie as tie
 
-fetch-requires : tie.Need-fetch-requires
-fetch-requires c κs = search needs
+take-at-requires : tie.Need-take-at-requires
+take-at-requires c κs = search needs
 
 enum-known-one : tie.Need-enum-known-one
 enum-known-one c = search needs
@@ -21,21 +21,21 @@ returns : tie.Need-returns
 unfolding unset
 returns c =
     let q = c .enum-told .given .1 in
-    ap toldFetched q ∙ so (off _ (got toldFetched _ _ _ _ (c .before .before .fetch .ensures) q))
+    ap toldFetched q ∙ so (off _ (got toldFetched _ _ _ _ (c .before .before .take-at .ensures) q))
 
 returns-2 : tie.Need-returns-2
 unfolding unset
 returns-2 c =
     let f = c .before .before in
-    so (on _ (got toldFetched _ _ _ _ (f .before .before .fetch .ensures) (f .one .given .1)) (holds _ _ (eq-eqb _ 0 (c .if1 .taken)) gives))
+    so (on _ (got toldFetched _ _ _ _ (f .before .before .take-at .ensures) (f .one .given .1)) (holds _ _ (eq-eqb _ 0 (c .if1 .taken)) gives))
 
 returns-3 : tie.Need-returns-3
 unfolding unset
 returns-3 c =
     let f = c .before .before in
-    let s = got toldFetched _ _ _ _ (f .before .before .fetch .ensures) (f .one .given .1) in
+    let s = got toldFetched _ _ _ _ (f .before .before .take-at .ensures) (f .one .given .1) in
     so (on _ s (fails _ 1 (ne-eqb _ 0 (c .if1 .left)) (took _ 1 s .moved)))
 
 pub unset-of-spec : {M : Type 1} → statement M
 unset-of-spec =
-    tie.close (tie.spec fetch-requires enum-known-one enum-told returns returns-2 returns-3)
+    tie.close (tie.spec take-at-requires enum-known-one enum-told returns returns-2 returns-3)

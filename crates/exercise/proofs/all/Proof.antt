@@ -1,46 +1,43 @@
 -- `exercise::all` meets its contract.
 use mathlib.Core.Path.{_≡_}
-use Prim.Native.Nat.{_-_, _≤_}
 use lib.ListN.{length}
 use borrow.Author.Needs.{needs}
 use Rattle.exercise.proofs.all.Statement.{statement}
 use Rattle.exercise.proofs.all.Tie as tie
 
 abbrev Inv-loop : tie.InvT-loop
-Inv-loop s map₀ held₀ at₀ end₀ map held at end = (at ≤ end) × (end ≤ length s) × (length map ≡ 4368)
+Inv-loop numbers₀ bytes₀ more₀ out₀ held₀ left₀ numbers bytes more out held left =
+    (length numbers ≡ length numbers₀) × (length bytes ≡ length bytes₀) × (length more ≡ length more₀) × (length out ≡ length out₀)
 
 abbrev μ-loop : tie.MeasureT-loop
-μ-loop s map₀ held₀ at₀ end₀ map held at end = length s - at
+μ-loop numbers₀ bytes₀ more₀ out₀ held₀ left₀ numbers bytes more out held left = left
 
 nothing-held-requires : tie.Need-nothing-held-requires Inv-loop μ-loop
 nothing-held-requires c κs = search needs
 
-end-of-requires : tie.Need-end-of-requires Inv-loop μ-loop
-end-of-requires c κs = search needs
-
 loop-holds : tie.Need-loop-holds Inv-loop μ-loop
 loop-holds c = search needs
-
-sub-loop : tie.Need-sub-loop Inv-loop μ-loop
-sub-loop c = search needs
-
-add-one : tie.Need-add-one Inv-loop μ-loop
-add-one c = search needs
-
-sub-one : tie.Need-sub-one Inv-loop μ-loop
-sub-one c = search needs
-
-part-one-start : tie.Need-part-one-start Inv-loop μ-loop
-part-one-start c = search needs
-
-part-one-end : tie.Need-part-one-end Inv-loop μ-loop
-part-one-end c = search needs
 
 one-requires : tie.Need-one-requires Inv-loop μ-loop
 one-requires c κs = search needs
 
-end-of-requires-2 : tie.Need-end-of-requires-2 Inv-loop μ-loop
-end-of-requires-2 c κs = search needs
+same-length : tie.Need-same-length Inv-loop μ-loop
+same-length c = search needs
+
+same-length-2 : tie.Need-same-length-2 Inv-loop μ-loop
+same-length-2 c = search needs
+
+same-length-3 : tie.Need-same-length-3 Inv-loop μ-loop
+same-length-3 c = search needs
+
+same-length-4 : tie.Need-same-length-4 Inv-loop μ-loop
+same-length-4 c = search needs
+
+returns : tie.Need-returns Inv-loop μ-loop
+returns c = search needs
+
+sub-left : tie.Need-sub-left Inv-loop μ-loop
+sub-left c = search needs
 
 loop-less : tie.Need-loop-less Inv-loop μ-loop
 loop-less c = search needs
@@ -48,11 +45,20 @@ loop-less c = search needs
 loop-again : tie.Need-loop-again Inv-loop μ-loop
 loop-again c = search needs
 
-same-length : tie.Need-same-length Inv-loop μ-loop
-same-length c = search needs
+same-length-5 : tie.Need-same-length-5 Inv-loop μ-loop
+same-length-5 c = search needs
 
-returns : tie.Need-returns Inv-loop μ-loop
-returns c = search needs
+same-length-6 : tie.Need-same-length-6 Inv-loop μ-loop
+same-length-6 c = search needs
+
+same-length-7 : tie.Need-same-length-7 Inv-loop μ-loop
+same-length-7 c = search needs
+
+same-length-8 : tie.Need-same-length-8 Inv-loop μ-loop
+same-length-8 c = search needs
+
+returns-2 : tie.Need-returns-2 Inv-loop μ-loop
+returns-2 c = search needs
 
 pub all-spec : {M : Type 1} → statement M
 all-spec =
@@ -61,16 +67,18 @@ all-spec =
     Inv-loop
     μ-loop
     nothing-held-requires
-    end-of-requires
     loop-holds
-    sub-loop
-    add-one
-    sub-one
-    part-one-start
-    part-one-end
     one-requires
-    end-of-requires-2
+    same-length
+    same-length-2
+    same-length-3
+    same-length-4
+    returns
+    sub-left
     loop-less
     loop-again
-    same-length
-    returns)
+    same-length-5
+    same-length-6
+    same-length-7
+    same-length-8
+    returns-2)

@@ -8,8 +8,6 @@ use Rattle.kernel.specs.Bits.{valueAt, bitAt}
 use Rattle.kernel.proofs.Values.{value-lt, value-more, value-room}
 use Rattle.kernel.proofs.value_at.Statement.{statement}
 use Rattle.kernel.proofs.value_at.Tie as tie
-use Rattle.kernel.proofs.value_at.Reads as reads
-use Rattle.kernel.proofs.value_at.Lts as lts
 
 abbrev Inv-loop : tie.InvT-loop
 Inv-loop el at width v₀ i₀ v i = (i ≤ width) × (v ≡ valueAt el at i)

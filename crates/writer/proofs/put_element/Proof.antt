@@ -1,3 +1,4 @@
+-- `writer::put_element` meets its contract.
 use borrow.Author.Needs.{needs}
 use mathlib.Core.Path.{_≡_, sym, _∙_, ap}
 use Prim.Native.Nat.{_+_, _*_, _≤_}
@@ -12,19 +13,10 @@ use Rattle.writer.proofs.Answers.{streams-count, slots, others, element
 use Rattle.writer.proofs.Whole.{fits-are, whole-is, few-is, enough-is, other-few}
 use Rattle.writer.proofs.put_element.Statement.{statement}
 use Rattle.writer.proofs.put_element.Tie as tie
-use Rattle.writer.proofs.put_element.Reads as reads
-use Rattle.writer.proofs.put_element.Lts as lts
-use Rattle.records.proofs.streams_in.Reads as streams-in-reads
-use Rattle.writer.proofs.put_alignment.Reads as put-alignment-reads
-use Rattle.writer.proofs.put_front.Reads as put-front-reads
-use Rattle.writer.proofs.put_other.Reads as put-other-reads
-use Rattle.writer.proofs.put_subframes.Reads as put-subframes-reads
 
--- src/lib.rt:216:9
 streams-in-requires : tie.Need-streams-in-requires
 streams-in-requires c κs = search needs
 
--- src/lib.rt:217:9
 abbrev sent : tie.Start → Sent
 sent s = let a = s .args in toSend (a .r) (a .send) (a .ns .now) (a .payload .now) (a .other .now)
 
@@ -36,15 +28,12 @@ count-is i =
 put-front-requires : tie.Need-put-front-requires
 put-front-requires c κs = let s = c .before .before .before .before .before .before .before .before in let o = record-ok (s .args .r) (s .pre .0) in (o .programs, o .count)
 
--- src/lib.rt:218:51
 cast-put-subframes : tie.Need-cast-put-subframes
 cast-put-subframes c = search needs
 
--- src/lib.rt:218:51
 add-put-subframes : tie.Need-add-put-subframes
 add-put-subframes c = search needs
 
--- src/lib.rt:218:9
 put-subframes-requires : tie.Need-put-subframes-requires
 put-subframes-requires c κs =
     let i = c .before .before .before .before .before .before in
@@ -58,7 +47,6 @@ put-subframes-requires c κs =
     let p : sumOf ((a .r .subframes + 1) * i .streams-in .result) (a .ns .now) ≡ length (a .payload .now) = rw k (whole-is w f) in
     (omega (arith, c .before .before .before .before .put-front .ensures .0), omega (arith, i .streams-in .ensures, o .count), omega (arith, o .subframes), n, p, omega (arith, p, rw (← k) at (few-is w f (s .pre .2))))
 
--- src/lib.rt:219:9
 put-other-requires : tie.Need-put-other-requires
 put-other-requires c κs =
     let b = c .before .before .before in
@@ -66,15 +54,12 @@ put-other-requires c κs =
     let f = fits-are (sent s) (s .pre .1) in
     (omega (arith, b .put-subframes .ensures .0, b .before .before .before .before .before .put-front .ensures .0), other-few (sent s) f (s .pre .2), enough-is (sent s) f)
 
--- src/lib.rt:220:5
 put-alignment-requires : tie.Need-put-alignment-requires
 put-alignment-requires c κs = search needs
 
--- src/lib.rt:210:1
 same-length : tie.Need-same-length
 same-length c = search needs
 
--- src/lib.rt:210:1
 returns : tie.Need-returns
 returns c =
     let l = c .before .before .put-alignment .ensures in

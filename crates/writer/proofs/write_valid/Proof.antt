@@ -72,13 +72,16 @@ measure-all-requires c κs =
 other-bytes-requires : tie.Need-other-bytes-requires
 other-bytes-requires c κs = search needs
 
+slice-aggregate-write-fitting : tie.Need-slice-aggregate-write-fitting
+slice-aggregate-write-fitting c = search needs
+
 write-fitting-requires : tie.Need-write-fitting-requires
 write-fitting-requires c κs =
-    let t = c .before in
-    let m = c .before .before .before .before .before in
+    let t = c .before .before in
+    let m = t .before .before .before .before in
     let s = m .before .before .before .before .before .before .before .before .before .before in
     let e = by-record m in
-    let f = sym (tested (c .before .before .before)) ∙ t .if2 .taken in
+    let f = sym (tested (t .before .before)) ∙ t .if2 .taken in
     let p = payload-is (m .measure-all .result .fits) _ (m .measure-all .result .payload) _ (t .if2 .taken) in
     (s .pre, f, ap (λ (x : Measure). x .lengths) e, m .measure-all .ensures .1 .0, omega (arith, p, m .measure-all .ensures .1 .1))
 
@@ -108,6 +111,7 @@ write-valid-spec =
     returns
     measure-all-requires
     other-bytes-requires
+    slice-aggregate-write-fitting
     write-fitting-requires
     same-length
     returns-2

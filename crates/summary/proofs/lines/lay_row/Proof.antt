@@ -1,3 +1,4 @@
+-- `summary::lay_row` meets its contract.
 use borrow.Author.Needs.{needs}
 use mathlib.Core.Path.{_≡_}
 use mir.Syntax.{w32}
@@ -6,53 +7,37 @@ use native.Mathlib.Omega.{arith}
 use Rattle.kernel.proofs.Lists.{stored-then}
 use Rattle.summary.proofs.lines.lay_row.Statement.{statement}
 use Rattle.summary.proofs.lines.lay_row.Tie as tie
-use Rattle.summary.proofs.lines.lay_row.Reads as reads
-use Rattle.summary.proofs.lines.lay_row.Lts as lts
-use Rattle.summary.proofs.lines.lay_core.Reads as lay-core-reads
-use Rattle.summary.proofs.lines.lay_place.Reads as lay-place-reads
-use Rattle.summary.proofs.lines.lay_signal.Reads as lay-signal-reads
 
--- src/lines.rt:81:41
 cast-lay-place : tie.Need-cast-lay-place
 cast-lay-place c = search needs
 
--- src/lines.rt:81:61
 cast-lay-place-2 : tie.Need-cast-lay-place-2
 cast-lay-place-2 c = search needs
 
--- src/lines.rt:81:9
 lay-place-requires : tie.Need-lay-place-requires
 lay-place-requires c κs = search needs
 
--- src/lines.rt:82:30
 cast-lay-core : tie.Need-cast-lay-core
 cast-lay-core c = search needs
 
--- src/lines.rt:82:47
 cast-lay-core-2 : tie.Need-cast-lay-core-2
 cast-lay-core-2 c = search needs
 
--- src/lines.rt:82:64
 cast-lay-core-3 : tie.Need-cast-lay-core-3
 cast-lay-core-3 c = search needs
 
--- src/lines.rt:82:9
 lay-core-requires : tie.Need-lay-core-requires
 lay-core-requires c κs = search needs
 
--- src/lines.rt:83:37
 cast-lay-signal : tie.Need-cast-lay-signal
 cast-lay-signal c = search needs
 
--- src/lines.rt:83:5
 lay-signal-requires : tie.Need-lay-signal-requires
 lay-signal-requires c κs = let d = c .before .before .before .before .before .before in omega (arith, d .lay-core .ensures .0, d .before .before .before .before .before .before .before .lay-place .ensures .0, d .before .before .before .before .before .before .before .before .before .before .before .before .pre)
 
--- src/lines.rt:77:1
 same-length : tie.Need-same-length
 same-length c = search needs
 
--- src/lines.rt:77:1
 sbr-is : (s : tie.Start) → toZ w32 (ofZ w32 (s .args .r .sbr)) ≡ s .args .r .sbr
 sbr-is s = search needs
 

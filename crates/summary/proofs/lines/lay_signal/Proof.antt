@@ -1,3 +1,4 @@
+-- `summary::lay_signal` meets its contract.
 use borrow.Author.Needs.{needs}
 use mir.Syntax.{w32}
 use mir.Val.{toZ, ofZ}
@@ -7,53 +8,37 @@ use lib.ListN.{length}
 use Rattle.kernel.proofs.Lists.{stored-then}
 use Rattle.summary.proofs.lines.lay_signal.Statement.{statement}
 use Rattle.summary.proofs.lines.lay_signal.Tie as tie
-use Rattle.summary.proofs.lines.lay_signal.Reads as reads
-use Rattle.summary.proofs.lines.lay_signal.Lts as lts
-use Rattle.kernel.proofs.lay.Reads as lay-reads
-use Rattle.summary.proofs.lines.flag_text.Reads as flag-text-reads
-use Rattle.text.proofs.lay_column.Reads as lay-column-reads
 
--- src/lines.rt:69:13
 flag-text-requires : tie.Need-flag-text-requires
 flag-text-requires c κs = search needs
 
--- src/lines.rt:70:13
 flag-text-requires-2 : tie.Need-flag-text-requires-2
 flag-text-requires-2 c κs = search needs
 
--- src/lines.rt:71:26
 slice-aggregate-lay : tie.Need-slice-aggregate-lay
 slice-aggregate-lay c = search needs
 
--- src/lines.rt:71:9
 lay-requires : tie.Need-lay-requires
 lay-requires c κs = search needs
 
--- src/lines.rt:72:25
 slice-aggregate-lay-2 : tie.Need-slice-aggregate-lay-2
 slice-aggregate-lay-2 c = search needs
 
--- src/lines.rt:72:9
 lay-requires-2 : tie.Need-lay-requires-2
 lay-requires-2 c κs = search needs
 
--- src/lines.rt:73:9
 lay-column-requires : tie.Need-lay-column-requires
 lay-column-requires c κs = search needs
 
--- src/lines.rt:74:17
 slice-aggregate-lay-3 : tie.Need-slice-aggregate-lay-3
 slice-aggregate-lay-3 c = search needs
 
--- src/lines.rt:74:5
 lay-requires-3 : tie.Need-lay-requires-3
 lay-requires-3 c κs = search needs
 
--- src/lines.rt:65:1
 same-length : tie.Need-same-length
 same-length c = search needs
 
--- src/lines.rt:65:1
 returns : tie.Need-returns
 returns c =
     let e = c .before .before in

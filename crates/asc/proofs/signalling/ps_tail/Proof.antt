@@ -1,0 +1,31 @@
+-- `asc::ps_tail` meets its contract.
+use Prim.Native.Nat.{_≤_, _<_}
+use borrow.Author.Needs.{needs}
+use borrow.Author.Tests.{le-leb, lt-leb}
+use Rattle.kernel.proofs.Chain.{met, so, gives, yes-way, no-way, placed}
+use Rattle.asc.specs.Asc.{psTail}
+use Rattle.asc.proofs.signalling.ps_tail.Statement.{statement}
+use Rattle.asc.proofs.signalling.ps_tail.Tie as tie
+
+left-of-requires : tie.Need-left-of-requires
+left-of-requires c κs = search needs
+
+ps-extension-requires : tie.Need-ps-extension-requires
+ps-extension-requires c κs = search needs
+
+returns : tie.Need-returns
+unfolding psTail
+returns c =
+    let l = c .before .before .left-of in
+    let h : 12 ≤ l .result = c .before .if1 .taken in
+    so (placed _ (yes-way _ (rw (← l .ensures) (le-leb 12 (l .result) h)) (met _ _ _ _ (c .ps-extension .ensures))))
+
+returns-2 : tie.Need-returns-2
+unfolding psTail
+returns-2 c =
+    let l = c .before .left-of in
+    let h : l .result < 12 = c .if1 .left in
+    so (placed _ (no-way _ (rw (← l .ensures) (lt-leb 12 (l .result) h)) gives))
+
+pub ps-tail-spec : {M : Type 1} → statement M
+ps-tail-spec = tie.close (tie.spec left-of-requires ps-extension-requires returns returns-2)

@@ -1,0 +1,31 @@
+-- `asc::tail_of` meets its contract.
+use Prim.Native.Nat.{_≤_, _<_}
+use borrow.Author.Needs.{needs}
+use borrow.Author.Tests.{le-leb, lt-leb}
+use Rattle.kernel.proofs.Chain.{met, so, gives, yes-way, no-way, placed}
+use Rattle.asc.specs.Asc.{tail}
+use Rattle.asc.proofs.signalling.tail_of.Statement.{statement}
+use Rattle.asc.proofs.signalling.tail_of.Tie as tie
+
+left-of-requires : tie.Need-left-of-requires
+left-of-requires c κs = search needs
+
+sync-extension-requires : tie.Need-sync-extension-requires
+sync-extension-requires c κs = search needs
+
+returns : tie.Need-returns
+unfolding tail
+returns c =
+    let l = c .before .before .left-of in
+    let h : 16 ≤ l .result = c .before .if1 .taken in
+    so (placed _ (yes-way _ (rw (← l .ensures) (le-leb 16 (l .result) h)) (met _ _ _ _ (c .sync-extension .ensures))))
+
+returns-2 : tie.Need-returns-2
+unfolding tail
+returns-2 c =
+    let l = c .before .left-of in
+    let h : l .result < 16 = c .if1 .left in
+    so (placed _ (no-way _ (rw (← l .ensures) (lt-leb 16 (l .result) h)) gives))
+
+pub tail-of-spec : {M : Type 1} → statement M
+tail-of-spec = tie.close (tie.spec left-of-requires sync-extension-requires returns returns-2)

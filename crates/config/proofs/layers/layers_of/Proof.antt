@@ -1,0 +1,102 @@
+-- `config::layers_of` meets its contract.
+use mathlib.Core.Path.{refl, ap, _≡_, _∙_}
+use Prim.Native.Nat.{_+_, _-_}
+use native.Mathlib.Omega.{arith}
+use denote.Ref.{now}
+use borrow.Author.Needs.{needs}
+use Rattle.kernel.specs.Answer.{refusal, told}
+use Rattle.kernel.specs.Reading.{run, Sound}
+use Rattle.kernel.proofs.Chain.{Comes, got, itself, same-end, steady}
+use Rattle.asc.specs.Asc.{left}
+use Rattle.config.specs.Mux.{layer, layers, configAt}
+use Rattle.config.specs.Answer.{toldStreamed, whyStreamed}
+use Rattle.config.specs.declared.Streamed.the-variants.{Value}
+use Rattle.config.proofs.Turns.{layers-done, layers-stop, layers-turn}
+use Rattle.config.proofs.layers.layers_of.Statement.{statement}
+use Rattle.config.proofs.layers.layers_of.Tie as tie
+
+abbrev Inv-loop : tie.InvT-loop
+Inv-loop el version n next cur₀ kept₀ i₀ left₀ cur kept i left = (i + left ≡ next + n) × Sound el (cur .at) (cur .read) × Comes el (layers version left i kept) (cur .at) (cur .read) (told (run el (layers version n next kept₀) (cur₀ .at) (cur₀ .read)))
+
+abbrev μ-loop : tie.MeasureT-loop
+μ-loop el version n next cur₀ kept₀ i₀ left₀ cur kept i left = left
+
+-- the layer that a turn read, after the stream just before
+ran : (c : tie.After-layer-of Inv-loop μ-loop) → let l = c .before .before .before in
+    toldStreamed (c .layer-of .result) ≡ told (run (now (l .before .before .args .el))
+    (layer (l .before .before .args .version) (l .loop .i) (configAt (l .loop .kept) (l .loop .i - 1))) (l .loop .cur .at) (l .loop .cur .read))
+ran c = rw (c .before .before-of .ensures) at (c .layer-of .ensures)
+
+loop-holds : tie.Need-loop-holds Inv-loop μ-loop
+loop-holds c = (refl, omega arith, itself)
+
+before-of-requires : tie.Need-before-of-requires Inv-loop μ-loop
+before-of-requires c κs = omega arith
+
+layer-of-requires : tie.Need-layer-of-requires Inv-loop μ-loop
+layer-of-requires c κs = omega arith
+
+enum-known-got : tie.Need-enum-known-got Inv-loop μ-loop
+enum-known-got c = search needs
+
+enum-told : tie.Need-enum-told Inv-loop μ-loop
+enum-told c = search needs
+
+why-streamed-requires : tie.Need-why-streamed-requires Inv-loop μ-loop
+why-streamed-requires c κs = search needs
+
+returns : tie.Need-returns Inv-loop μ-loop
+returns c =
+    let d = c .before in
+    let q = d .enum-told .given .1 in
+    let l = d .before .before .before .before .before in
+    ap refusal (c .why-streamed .ensures ∙ ap whyStreamed q)
+    ∙ same-end (layers-stop _ (l .loop .left) (l .loop .i) (l .loop .kept) (omega arith) (got toldStreamed _ _ _ _ (ran (d .before .before)) q)) (l .loop .inv .2)
+
+mul-kept : tie.Need-mul-kept Inv-loop μ-loop
+mul-kept c = search needs
+
+array-set-from-kept : tie.Need-array-set-from-kept Inv-loop μ-loop
+array-set-from-kept c = omega arith
+
+add-i : tie.Need-add-i Inv-loop μ-loop
+add-i c = omega arith
+
+sub-left : tie.Need-sub-left Inv-loop μ-loop
+sub-left c = omega arith
+
+loop-less : tie.Need-loop-less Inv-loop μ-loop
+loop-less c = omega arith
+
+loop-again : tie.Need-loop-again Inv-loop μ-loop
+loop-again c =
+    let g = c .before in
+    let l = g .before .before .before .before .before in
+    let s = got toldStreamed _ _ _ _ (ran (g .before .before)) (g .got .given .1) in
+    (omega arith, steady s (l .loop .inv .1), layers-turn _ (l .loop .left) (l .loop .i) (l .loop .kept) (omega arith) s (l .loop .inv .2))
+
+returns-2 : tie.Need-returns-2 Inv-loop μ-loop
+returns-2 c =
+    let l = c .before in
+    same-end (layers-done _ (l .loop .left) (l .loop .i) (l .loop .kept) (omega arith)) (l .loop .inv .2)
+
+pub layers-of-spec : {M : Type 1} → statement M
+layers-of-spec =
+    tie.close
+    (tie.spec
+    Inv-loop
+    μ-loop
+    loop-holds
+    before-of-requires
+    layer-of-requires
+    enum-known-got
+    enum-told
+    why-streamed-requires
+    returns
+    mul-kept
+    array-set-from-kept
+    add-i
+    sub-left
+    loop-less
+    loop-again
+    returns-2)

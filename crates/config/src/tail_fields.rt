@@ -1,0 +1,92 @@
+// Other data and checksum, as the configuration announces them.
+ghost use mathlib.Core.Path.{_≡_};
+ghost use lib.Dec.{eqb};
+ghost use Rattle.kernel.specs.Reading.{choose, give, field, run, Sound};
+ghost use Rattle.kernel.specs.Answer.{told, toldFetched};
+ghost use Rattle.kernel.specs.declared.Window.the-variants.{Open};
+ghost use Rattle.config.specs.Mux.{otherLength, muxTail};
+ghost use Rattle.config.specs.Answer.{toldTailed, whyTailed};
+use crate::Tail;
+use crate::Tailed;
+use asc::groups_of;
+use asc::latm_get_value;
+use kernel::Cursor;
+use kernel::Fetched;
+use kernel::Refusal;
+use kernel::Window;
+use kernel::fetch;
+use kernel::why;
+
+fn other_length(el: &[u8], version: u32, c: Cursor) -> Fetched
+    requires { ⌜ Sound (now el) (c .at) (c .read) ⌝ }
+    ensures { λ r. ⌜ toldFetched r ≡ told (run (now (el .entry)) (otherLength version) (c .at) (c .read)) ⌝ }
+{
+    if version == 1 {
+        return latm_get_value(el, c);
+    }
+    groups_of(el, c)
+}
+
+fn other_if(el: &[u8], version: u32, other: u32, c: Cursor) -> Fetched
+    requires { ⌜ Sound (now el) (c .at) (c .read) ⌝ }
+    ensures { λ r. ⌜ toldFetched r ≡ told (run (now (el .entry)) (choose (eqb other 1) (otherLength version) (give 0)) (c .at) (c .read)) ⌝ }
+{
+    if other == 1 {
+        return other_length(el, version, c);
+    }
+    Fetched::Value(0, c)
+}
+
+fn crc_if(el: &[u8], checked: u32, c: Cursor) -> Fetched
+    requires { ⌜ Sound (now el) (c .at) (c .read) ⌝ }
+    ensures { λ r. ⌜ toldFetched r ≡ told (run (now (el .entry)) (choose (eqb checked 1) (field Open 8) (give 0)) (c .at) (c .read)) ⌝ }
+{
+    if checked == 1 {
+        return fetch(el, Window::Open, c, 8);
+    }
+    Fetched::Value(0, c)
+}
+
+pub fn tail_of(el: &[u8], version: u32, c: Cursor) -> Tailed
+    requires { ⌜ Sound (now el) (c .at) (c .read) ⌝ }
+    ensures { λ r. ⌜ toldTailed r ≡ told (run (now (el .entry)) (muxTail version) (c .at) (c .read)) ⌝ }
+{
+    let a = fetch(el, Window::Open, c, 1);
+    let Fetched::Value(other, c1) = a else {
+        return Tailed::Refused(why(a));
+    };
+    let b = other_if(el, version, other, c1);
+    let Fetched::Value(bits, c2) = b else {
+        return Tailed::Refused(why(b));
+    };
+    let d = fetch(el, Window::Open, c2, 1);
+    let Fetched::Value(checked, c3) = d else {
+        return Tailed::Refused(why(d));
+    };
+    let e = crc_if(el, checked, c3);
+    let Fetched::Value(crc, c4) = e else {
+        return Tailed::Refused(why(e));
+    };
+    Tailed::Value(
+        Tail {
+            other: other,
+            bits: bits,
+            checked: checked,
+            crc: crc,
+        },
+        c4,
+    )
+}
+
+pub fn why_tailed(f: Tailed) -> Refusal
+    ensures { λ r. ⌜ r ≡ whyTailed f ⌝ }
+{
+    match f {
+        Tailed::Value(_, _) => Refusal {
+            number: 0,
+            place: 0,
+            read: 0,
+        },
+        Tailed::Refused(x) => x,
+    }
+}

@@ -1,0 +1,3 @@
+-- Laws of words, and the theorems.
+pub mod Words
+pub mod Theorems

@@ -1,0 +1,25 @@
+-- `record_words::lay_record` meets its contract.
+use Rattle.record_words.proofs.Words.{laid-none, laid-all}
+use borrow.Author.Tests.{le-leb, lt-leb}
+use mathlib.Core.Path.{sym}
+use borrow.Author.Needs.{needs}
+use Rattle.record_words.proofs.lay.lay_record.Statement.{statement}
+use Rattle.record_words.proofs.lay.lay_record.Tie as tie
+
+returns : tie.Need-returns
+returns c = (sym (lt-leb 250 _ (c .if1 .taken)), laid-none _ _ (c .if1 .taken))
+
+lay-all-requires : tie.Need-lay-all-requires
+lay-all-requires c κs = search needs
+
+same-length : tie.Need-same-length
+same-length c = search needs
+
+returns-2 : tie.Need-returns-2
+returns-2 c =
+    let p = c .before .before .lay-all .ensures in
+    let h = c .before .before .before .before .if1 .left in
+    (sym (le-leb 250 _ h), laid-all _ _ _ _ (p .1) (p .0) h)
+
+pub lay-record-spec : {M : Type 1} → statement M
+lay-record-spec = tie.close (tie.spec returns lay-all-requires same-length returns-2)

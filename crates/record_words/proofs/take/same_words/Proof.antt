@@ -1,0 +1,67 @@
+-- `record_words::same_words` meets its contract.
+use Rattle.record_words.specs.Words.{sameWords}
+use mathlib.Core.Path.{_≡_, refl}
+use Prim.Native.Nat.{_≤_, _-_}
+use native.Mathlib.Numerals.{add-one}
+use native.Mathlib.Omega.{arith}
+use lib.Dec.{eqb}
+use lib.ListN.{getD}
+use borrow.Author.Needs.{needs}
+use Rattle.kernel.specs.Lists.{allOf}
+use Rattle.record_words.proofs.take.same_words.Statement.{statement}
+use Rattle.record_words.proofs.take.same_words.Tie as tie
+
+abbrev Inv-loop : tie.InvT-loop
+Inv-loop a b same₀ i₀ same i = (i ≤ 250) × (same ≡ allOf i λ k. eqb (getD a k 0) (getD b k 0))
+
+abbrev μ-loop : tie.MeasureT-loop
+μ-loop a b same₀ i₀ same i = 250 - i
+
+loop-holds : tie.Need-loop-holds Inv-loop μ-loop
+unfolding allOf
+loop-holds c = (search needs, refl)
+
+mul-same : tie.Need-mul-same Inv-loop μ-loop
+mul-same c = search needs
+
+shared-slice-read-same : tie.Need-shared-slice-read-same Inv-loop μ-loop
+shared-slice-read-same c = search needs
+
+mul-same-2 : tie.Need-mul-same-2 Inv-loop μ-loop
+mul-same-2 c = search needs
+
+shared-slice-read-same-2 : tie.Need-shared-slice-read-same-2 Inv-loop μ-loop
+shared-slice-read-same-2 c = search needs
+
+add-i : tie.Need-add-i Inv-loop μ-loop
+add-i c = search needs
+
+loop-less : tie.Need-loop-less Inv-loop μ-loop
+loop-less c = search needs
+
+loop-again : tie.Need-loop-again Inv-loop μ-loop
+unfolding allOf
+loop-again c = let l = c .before .before .before .loop in (search needs, rw (add-one (l .i), l .inv .1))
+
+returns : tie.Need-returns Inv-loop μ-loop
+unfolding sameWords
+returns c =
+    let l = c .before .loop in
+    let e : l .i ≡ 250 = omega arith in
+    rw e at (l .inv .1)
+
+pub same-words-spec : {M : Type 1} → statement M
+same-words-spec =
+    tie.close
+    (tie.spec
+    Inv-loop
+    μ-loop
+    loop-holds
+    mul-same
+    shared-slice-read-same
+    mul-same-2
+    shared-slice-read-same-2
+    add-i
+    loop-less
+    loop-again
+    returns)

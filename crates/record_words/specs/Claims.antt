@@ -1,0 +1,23 @@
+-- What is claimed of words. proofs/Theorems.antt has the theorem of each.
+use mathlib.Core.Path.{_≡_}
+use mathlib.Core.Bool.{false}
+use mathlib.Core.Logic.{_⊎_}
+use mathlib.Core.List.{List, _++_}
+use Prim.Native.Nat.{ℕ}
+use lib.ListN.{length, take}
+use Rattle.records.specs.declared.Record.{Record}
+use Rattle.records.specs.Blank.{noRecord}
+use Rattle.records.specs.Valid.{validOf}
+use Rattle.record_words.specs.Words.{wordsOf, recordIn}
+
+-- a record laid is found again, whatever stands behind it; an array has 16 places
+abbrev pub LaidIsFound : Type 0
+LaidIsFound = (r : Record) (rest : List ℕ) → length (r .layers) ≡ 16 → length (r .streams) ≡ 16 → recordIn (wordsOf r ++ rest) ≡ r
+
+-- a record found has the words it was found in, or it is the blank one
+abbrev pub FoundHasTheWords : Type 0
+FoundHasTheWords = (w : List ℕ) → (wordsOf (recordIn w) ≡ take 250 w) ⊎ (recordIn w ≡ noRecord)
+
+-- which 16 refuses
+abbrev pub BlankIsRefused : Type 0
+BlankIsRefused = validOf noRecord ≡ false

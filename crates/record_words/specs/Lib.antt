@@ -1,0 +1,3 @@
+-- The words of a record.
+pub mod Words
+pub mod Claims

@@ -1,0 +1,116 @@
+-- A record as 250 words at fixed places, and the record that words are.
+use mathlib.Core.Bool.{Bool, cond, _&&_}
+use mathlib.Core.List.{List, [], _∷_, _++_}
+use Prim.Native.Nat.{ℕ, _+_, _*_}
+use lib.Dec.{leb, eqb}
+use lib.ListN.{length, getD, drop}
+use Rattle.kernel.specs.Lists.{tab, allOf}
+use Rattle.records.specs.declared.Freq.{Freq}
+use Rattle.records.specs.declared.Freq.the-variants.{Index, Hz}
+use Rattle.records.specs.declared.Form.{Form}
+use Rattle.records.specs.declared.Form.the-variants.{None, Type5, Type29, Flag0, Flag1, FlagPs}
+use Rattle.records.specs.declared.Stream.{Stream}
+use Rattle.records.specs.declared.Record.{Record}
+use Rattle.records.specs.Blank.{noRecord}
+use Rattle.records.specs.Same.{formTag, formFreq, formPs}
+
+-- ---- the words of a record
+
+-- 0 for an index, 1 for 24 bits
+abbrev pub freqChoice : Freq → ℕ
+freqChoice (Index i) = 0
+freqChoice (Hz h) = 1
+
+abbrev pub freqNumber : Freq → ℕ
+freqNumber (Index i) = i
+freqNumber (Hz h) = h
+
+-- 4 words: the form's number, its frequency and its PS flag, 0 where it has none
+abbrev pub formWords : Form → List ℕ
+formWords f = formTag f ∷ freqChoice (formFreq f) ∷ freqNumber (formFreq f) ∷ formPs f ∷ []
+
+-- 14 words
+abbrev pub streamWords : Stream → List ℕ
+streamWords s =
+    s .config .core
+    ∷ freqChoice (s .config .freq)
+    ∷ freqNumber (s .config .freq)
+    ∷ s .config .channels
+    ∷ s .config .frame
+    ∷ s .config .depends
+    ∷ s .config .extension
+    ∷ (formWords (s .config .form) ++ (s .kind ∷ s .fullness ∷ s .slot ∷ []))
+
+unfoldable pub streamsWords : List Stream → List ℕ
+streamsWords [] = []
+streamsWords (s ∷ streams) = streamWords s ++ streamsWords streams
+
+abbrev pub headWords : Record → List ℕ
+headWords r = r .version ∷ r .variant ∷ r .tara ∷ r .framing ∷ r .subframes ∷ r .programs ∷ []
+
+abbrev pub tailWords : Record → List ℕ
+tailWords r = r .other ∷ r .bits ∷ r .checked ∷ r .crc ∷ []
+
+-- 250 words
+abbrev pub wordsOf : Record → List ℕ
+wordsOf r = headWords r ++ (r .layers ++ (streamsWords (r .streams) ++ tailWords r))
+
+-- ---- the record of words
+
+abbrev pub freqFrom : ℕ → ℕ → Freq
+freqFrom choice n = cond (eqb choice 0) (Index n) (Hz n)
+
+abbrev pub formFrom : ℕ → Freq → ℕ → Form
+formFrom tag x ps =
+    cond (eqb tag 0) None (cond (eqb tag 1) (Type5 x) (cond (eqb tag 2) (Type29 x) (cond (eqb tag 3) Flag0 (cond (eqb tag 4) (Flag1 x) (FlagPs x ps)))))
+
+-- the stream whose words stand first
+abbrev pub streamFrom : List ℕ → Stream
+streamFrom w = record {
+  config = record {
+    core = getD w 0 0;
+    freq = freqFrom (getD w 1 0) (getD w 2 0);
+    channels = getD w 3 0;
+    frame = getD w 4 0;
+    depends = getD w 5 0;
+    extension = getD w 6 0;
+    form = formFrom (getD w 7 0) (freqFrom (getD w 8 0) (getD w 9 0)) (getD w 10 0);
+  };
+  kind = getD w 11 0;
+  fullness = getD w 12 0;
+  slot = getD w 13 0;
+}
+
+abbrev pub layersFrom : List ℕ → List ℕ
+layersFrom w = tab 16 λ p. getD w (6 + p) 0
+
+abbrev pub streamsFrom : List ℕ → List Stream
+streamsFrom w = tab 16 λ i. streamFrom (drop (22 + 14 * i) w)
+
+abbrev pub recordFrom : List ℕ → Record
+recordFrom w = record {
+  version = getD w 0 0;
+  variant = getD w 1 0;
+  tara = getD w 2 0;
+  framing = getD w 3 0;
+  subframes = getD w 4 0;
+  programs = getD w 5 0;
+  layers = layersFrom w;
+  streams = streamsFrom w;
+  other = getD w 246 0;
+  bits = getD w 247 0;
+  checked = getD w 248 0;
+  crc = getD w 249 0;
+}
+
+-- the first 250 words of both are the same
+unfoldable pub sameWords : List ℕ → List ℕ → Bool
+sameWords a b = allOf 250 λ i. eqb (getD a i 0) (getD b i 0)
+
+-- Words are a record's where it has these words. Others, a form of number 6 or a PS flag where there is none, are nobody's and give the blank record.
+unfoldable pub recordIn : List ℕ → Record
+recordIn w = cond (leb 250 (length w) && sameWords (wordsOf (recordFrom w)) w) (recordFrom w) noRecord
+
+-- words lent, after a record is laid in them: too few stay as they were
+unfoldable pub laidIn : List ℕ → Record → List ℕ
+laidIn w r = cond (leb 250 (length w)) (wordsOf r ++ drop 250 w) w

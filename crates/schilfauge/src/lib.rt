@@ -1,0 +1,222 @@
+// The library for callers in C and Rust: numbers, slices and lent arrays. Where something is refused the answer is the refusal's number, else 0.
+ghost use mathlib.Core.Path.{_≡_};
+ghost use lib.ListN.{length};
+ghost use Rattle.sync.specs.Sync.{huntOf, framedOf};
+ghost use Rattle.sync.specs.Sync as sync;
+ghost use Rattle.element.specs.Reply.{verdictOf, mapAfter};
+ghost use Rattle.records.specs.Table.{tableOf};
+ghost use Rattle.record_words.specs.Words.{recordIn};
+ghost use Rattle.writer.specs.Write.{writtenOf, outAfter};
+ghost use Rattle.schilfauge.specs.Lent.{huntNumber, foundAfter, heldIn, heldWords, answerIn, heldAfter, keptAfter, readNumber, answerWords, rowNumber, streamAt, rowWords, rowAt, rowAfter, sentIn, writeNumber, writtenAfter, frameNumber, framedAfter};
+use element::Held;
+use element::Verdict;
+use element::read;
+use record_words::lay_record;
+use record_words::record_in;
+use records::Record;
+use records::table_of;
+use records::valid;
+use row::Rowed;
+use row::cell_at;
+use row::row_of;
+use sync::Framed;
+use sync::Hunted;
+use sync::frame;
+use sync::hunt;
+use writer::Written;
+use writer::write;
+
+// The first frame at or after the start: its place, and the bytes of its element.
+#[no_mangle]
+pub extern "C" fn schilf_hunt(capture: &[u8], start: usize, found: &mut [usize; 2]) -> usize
+    ensures number { λ r. ⌜ r ≡ huntNumber (huntOf (now (capture .entry)) start) ⌝ }
+    ensures found { λ r. ⌜ now (found .exit) ≡ foundAfter (now (found .entry)) (huntOf (now (capture .entry)) start) ⌝ }
+{
+    match hunt(capture, start) {
+        Hunted::Found(place, size) => {
+            *found = [place, size];
+            0
+        }
+        Hunted::Refused(x) => x.number,
+    }
+}
+
+fn held_in(words: &[u32; 251]) -> Held
+    ensures { λ r. ⌜ r ≡ heldIn (now (words .entry)) ⌝ }
+{
+    let r = record_in(words);
+    Held {
+        present: words[250] == 1,
+        config: r,
+    }
+}
+
+fn held_words(r: Record) -> [u32; 251]
+    ensures { λ x. ⌜ x ≡ heldWords r ⌝ }
+{
+    let mut words = [1u32; 251];
+    lay_record(&mut words, r);
+    words
+}
+
+fn read_number(v: Verdict) -> usize
+    ensures { λ r. ⌜ r ≡ readNumber v ⌝ }
+{
+    match v {
+        Verdict::Accepted(_, _, _) => 0,
+        Verdict::Refused(x) => x.number,
+    }
+}
+
+fn answer_words(v: Verdict) -> [usize; 4]
+    ensures { λ r. ⌜ r ≡ answerWords v ⌝ }
+{
+    match v {
+        Verdict::Accepted(items, fields, sent) => [
+            items as usize,
+            0,
+            fields as usize,
+            sent as usize,
+        ],
+        Verdict::Refused(x) => [0, x.place, x.read, 0],
+    }
+}
+
+// A configuration that was sent and accepted is kept in the words.
+fn keep(words: &mut [u32; 251], v: Verdict, r: Record)
+    ensures { λ x. ⌜ now (words .exit) ≡ keptAfter (now (words .entry)) v r ⌝ }
+{
+    match v {
+        Verdict::Accepted(_, _, sent) => {
+            if sent {
+                *words = held_words(r);
+            }
+        }
+        Verdict::Refused(_) => {}
+    }
+}
+
+// One element with what is held before it. Its items go into the map; a configuration that it sends is held from then on.
+#[no_mangle]
+pub extern "C" fn schilf_read(
+    element: &[u8],
+    held: &mut [u32; 251],
+    map: &mut [u32],
+    told: &mut [usize; 4],
+) -> usize
+    ensures number { λ r. ⌜ r ≡ readNumber (verdictOf (answerIn (now (element .entry)) (now (held .entry)) (length (now (map .entry))))) ⌝ }
+    ensures held { λ r. ⌜ now (held .exit) ≡ heldAfter (now (held .entry)) (answerIn (now (element .entry)) (now (held .entry)) (length (now (map .entry)))) ⌝ }
+    ensures map { λ r. ⌜ now (map .exit) ≡ mapAfter (now (map .entry)) (answerIn (now (element .entry)) (now (held .entry)) (length (now (map .entry)))) ⌝ }
+    ensures told { λ r. ⌜ now (told .exit) ≡ answerWords (verdictOf (answerIn (now (element .entry)) (now (held .entry)) (length (now (map .entry))))) ⌝ }
+{
+    let before = held_in(held);
+    let reply = read(element, before, map);
+    let verdict = reply.verdict;
+    let kept = reply.held;
+    keep(held, verdict, kept.config);
+    *told = answer_words(verdict);
+    read_number(verdict)
+}
+
+fn stream_at(table: [[u8; 8]; 16], program: u32, layer: u32) -> u8
+    ensures { λ r. ⌜ r ≡ streamAt table program layer ⌝ }
+{
+    let p = program as usize;
+    let l = layer as usize;
+    if 16 <= p {
+        return 255;
+    }
+    if 8 <= l {
+        return 255;
+    }
+    cell_at(table, p, l)
+}
+
+fn row_words(stream: u8, x: Rowed) -> [i64; 9]
+    ensures { λ r. ⌜ r ≡ rowWords stream x ⌝ }
+{
+    match x {
+        Rowed::Is(r) => [
+            stream as i64,
+            r.program as i64,
+            r.layer as i64,
+            r.core as i64,
+            r.rate as i64,
+            r.output as i64,
+            r.sbr as i64,
+            r.ps as i64,
+            r.channels as i64,
+        ],
+        Rowed::Absent => [255, 0, 0, 0, 0, 0, 0, 0, 0],
+    }
+}
+
+fn row_at(r: Record, program: u32, layer: u32) -> [i64; 9]
+    ensures { λ x. ⌜ x ≡ rowAt r (tableOf (r .layers) (r .programs)) program layer ⌝ }
+{
+    let layers = r.layers;
+    let table = table_of(layers, r.programs);
+    let stream = stream_at(table, program, layer);
+    let x = row_of(r, table, program, layer);
+    row_words(stream, x)
+}
+
+// The row of a program's layer of a record's words, behind its stream's number.
+#[no_mangle]
+pub extern "C" fn schilf_row(
+    words: &[u32; 250],
+    program: u32,
+    layer: u32,
+    row: &mut [i64; 9],
+) -> usize
+    ensures number { λ r. ⌜ r ≡ rowNumber (recordIn (now (words .entry))) ⌝ }
+    ensures row { λ r. ⌜ now (row .exit) ≡ rowAfter (now (row .entry)) (recordIn (now (words .entry))) program layer ⌝ }
+{
+    let r = record_in(words);
+    if !valid(r) {
+        return 16;
+    }
+    *row = row_at(r, program, layer);
+    0
+}
+
+// One element, written into `out` from a record's words; the bytes of it.
+#[no_mangle]
+pub extern "C" fn schilf_write(
+    words: &[u32; 250],
+    send: bool,
+    lengths: &[u32],
+    payload: &[u8],
+    other: &[u8],
+    out: &mut [u8],
+    written: &mut usize,
+) -> usize
+    ensures number { λ r. ⌜ r ≡ writeNumber (writtenOf (sentIn (now (words .entry)) send (now (lengths .entry)) (now (payload .entry)) (now (other .entry))) (length (now (out .entry)))) ⌝ }
+    ensures bytes { λ r. ⌜ now (out .exit) ≡ outAfter (sentIn (now (words .entry)) send (now (lengths .entry)) (now (payload .entry)) (now (other .entry))) (now (out .entry)) (writtenOf (sentIn (now (words .entry)) send (now (lengths .entry)) (now (payload .entry)) (now (other .entry))) (length (now (out .entry)))) ⌝ }
+    ensures written { λ r. ⌜ now (written .exit) ≡ writtenAfter (now (written .entry)) (writtenOf (sentIn (now (words .entry)) send (now (lengths .entry)) (now (payload .entry)) (now (other .entry))) (length (now (out .entry)))) ⌝ }
+{
+    let r = record_in(words);
+    match write(r, send, lengths, payload, other, out) {
+        Written::Done(n) => {
+            *written = n;
+            0
+        }
+        Written::Refused(x) => x.number,
+    }
+}
+
+// The frame of an element, laid into `out`; the bytes of it.
+#[no_mangle]
+pub extern "C" fn schilf_frame(element: &[u8], out: &mut [u8], written: &mut usize) -> usize
+    ensures number { λ r. ⌜ r ≡ frameNumber (framedOf (now (element .entry)) (length (now (out .entry)))) ⌝ }
+    ensures bytes { λ r. ⌜ now (out .exit) ≡ sync.outAfter (now (element .entry)) (now (out .entry)) (framedOf (now (element .entry)) (length (now (out .entry)))) ⌝ }
+    ensures written { λ r. ⌜ now (written .exit) ≡ framedAfter (now (written .entry)) (framedOf (now (element .entry)) (length (now (out .entry)))) ⌝ }
+{
+    match frame(element, out) {
+        Framed::Done(n) => {
+            *written = n;
+            0
+        }
+        Framed::Refused(x) => x.number,
+    }
+}
