@@ -58,12 +58,18 @@ int main(int argc, char **argv)
     uint32_t held[SCHILF_HELD_WORDS] = {0};
     size_t found[SCHILF_FOUND_WORDS], answer[SCHILF_ANSWER_WORDS];
 
-    FILE *file = argc == 2 ? fopen(argv[1], "rb") : NULL;
-    if (file == NULL) {
+    if (argc != 2) {
         fprintf(stderr, "usage: rewrite CAPTURE\n");
         return 2;
     }
-    size_t size = fread(capture, 1, sizeof capture, file);
+    FILE *file = fopen(argv[1], "rb");
+    size_t size = file == NULL ? 0 : fread(capture, 1, sizeof capture, file);
+    if (file == NULL || ferror(file)) {
+        perror(argv[1]);
+        return 2;
+    }
+    if (fgetc(file) != EOF)
+        fprintf(stderr, "only the first %zu bytes of the capture are read\n", size);
     fclose(file);
 
     for (size_t at = 0; schilf_hunt(capture, size, at, found) == 0; at = found[SCHILF_FOUND_PLACE] + SCHILF_FRAME_HEAD + found[SCHILF_FOUND_SIZE]) {

@@ -92,12 +92,12 @@ good(held(ONE, [256]), False)
 good(held(ONE, [510]), False)
 case(held(ONE, [255]).data()[:257], refused(3, 17, 3))
 
-# two programmes, one of fixed slots, with other data and a checksum
+# two programs, one of fixed slots, with other data and a checksum
 good(sent([1, 1], [None, 0], [[3, 0]], other=12, crc=77), True)
 good(sent([1, 2], [511, None, 7], [[0, 1, 0], [0, 300, 0]], other=300, index=7, channels=1), True)
 good(sent([1], ONE, [[9]], other=0), True)
 
-# 16 streams, in two programmes and in sixteen; 17
+# 16 streams, in two programs and in sixteen; 17
 good(sent([8, 8], SIXTEEN, [range(16)]), True)
 good(sent([1] * 16, SIXTEEN, [range(240, 256)]), True)
 case(*seventeen())

@@ -83,7 +83,7 @@ def v1(audio=Audio(), **more):
 
 
 def divided(layers, streams):
-    """The streams divided into programmes of so many layers."""
+    """The streams divided into programs of so many layers."""
     assert sum(layers) == len(streams)
     streams = iter(streams)
     return tuple(tuple(next(streams) for _ in range(count)) for count in layers)
@@ -230,7 +230,7 @@ for number, layers in enumerate(DIVISIONS):
     applies([(i * i + number) % 7 for i in range(count)])
 
 # configurations that change from stream to stream: one that comes back after another is not that of the stream just before; an index and
-# 24 bits of the same frequency are not equal; useSameConfig across programmes; only fill differs, so the configurations are equal
+# 24 bits of the same frequency are not equal; useSameConfig across programs; only fill differs, so the configurations are equal
 BACK = Audio(2, Index(6), 1)
 CODED = {
     0: [PLAIN, BACK, PLAIN, PLAIN, BACK, BACK, Audio(2, Hz(48000), 2), PLAIN, PLAIN, Audio(2, Hz(48000), 2)],

@@ -60,11 +60,11 @@ def two_programmes():
     yield from (held(a, [size, 0]) for size in (41, 0, 7, 255))
     yield sent(a, [12, 0])
     yield held(a, [13, 0])
-    # only programme 1 changes
+    # only program 1 changes
     b = Mux(((first,), (replace(second, audio=Audio(2, Index(7), 1, "type 5", Index(4))),)))
     yield sent(b, [14, 0])
     yield held(b, [15, 0])
-    # two layers in each programme; layer 0 of programme 1 is told to be as the stream before it, which is not programme 0's first
+    # two layers in each program; layer 0 of program 1 is told to be as the stream before it, which is not program 0's first
     spoken = Layer(Audio(2, Index(8), 1))
     c = Mux(((first, spoken), (replace(spoken, type=1, value=0), second)))
     yield sent(c, [16, 5, 0, 0])
@@ -129,7 +129,7 @@ def signalling():
     yield sent(Mux(tuple((Layer(Audio(2, Index(i), 1)),) for i in range(len(FREQUENCIES)))), range(13))
     yield sent(Mux((tuple(Layer(Audio(2, Index(3), i)) for i in range(1, 8)),), version=1), range(7))
 
-    # three programmes; the configuration is that of the stream before across programmes too
+    # three programs; the configuration is that of the stream before across programs too
     a = Layer(replace(core, form="flag 1 with PS 1"))
     b = Layer(replace(core, form="flag 0", extension=None), 1, 3)
     c = Layer(Audio(2, Index(6), 1))
@@ -169,7 +169,7 @@ def subframes():
     yield sent(pair, [254, 255])
     yield held(pair, [256, 510])
 
-    # 64 subframes; 16 streams in sixteen programmes, and in two with no length at all
+    # 64 subframes; 16 streams in sixteen programs, and in two with no length at all
     yield sent(one(subframes=64), *sizes(64, 2, 1))
     yield held(one(subframes=64), *sizes(64, 3, 1))
     yield sent(Mux(((more,),) * 16), range(16))

@@ -90,7 +90,7 @@ programsBits version zero p next ks streams = []
 programsBits version (suc n) p next ks streams =
     bitsOf 3 (getD ks p 0) ⧺ layersBits version (getD ks p 0 + 1) next streams ⧺ programsBits version n (p + 1) (next + (getD ks p 0 + 1)) ks streams
 
--- audioMuxVersionA and taraBufferFullness, of version 1
+-- audioMuxVersionA, of version 1
 unfoldable pub variantA : Reading ℕ
 variantA = do
   a ← field Open 1

@@ -7,5 +7,7 @@ pub mod Came
 pub mod Order
 pub mod Contents
 pub mod Alignment
+pub mod Kept
+pub mod Productions
 pub mod Worked
 pub mod Theorems

@@ -15,10 +15,11 @@ use Rattle.kernel.proofs.Theorems as kernel
 use Rattle.element.specs.declared.Held.{Held}
 use Rattle.element.specs.Mux.{kindU, Applied, useSameStreamMux, afterFlag, audioMuxElement}
 use Rattle.element.specs.Reply.{answer, replyWith, mapAfter}
-use Rattle.element.specs.Claims.{EachBitInOneItem, WidthsAddUp, EachByKind, MapInOrder, AlignmentIsShort, ContentByKind, CountIsBounded, SameAccepted, SameRefused, SentStandsAlone, RefusalLosesNothing, ReadOnce}
+use Rattle.element.specs.Claims.{EachBitInOneItem, WidthsAddUp, EachByKind, MapInOrder, AlignmentIsShort, ContentByKind, CountIsBounded, SameAccepted, SameRefused, SentStandsAlone, RefusalLosesNothing, RefusalIsNumbered, SentHasItsPlaces, ReadOnce}
 use Rattle.element.proofs.Order.{element-in-order}
 use Rattle.element.proofs.Contents.{element-by-kind}
 use Rattle.element.proofs.Alignment.{element-ends-short}
+use Rattle.element.proofs.Productions.{SentPlaces, answered}
 
 -- refusal 1, refusal 2, or what the fields come to
 abbrev tested : Bool → Bool → Answer Applied → Answer Applied
@@ -113,6 +114,12 @@ module _ (s : List ℕ) (held : Held) (room : ℕ) where
 
   pub refusal-loses-nothing : RefusalLosesNothing s held room
   refusal-loses-nothing r its h = (ap (λ (z : Answer Applied). replyWith held z .held) h, λ map. ap (mapAfter map) h)
+
+  pub refusal-is-numbered : RefusalIsNumbered s held room
+  refusal-is-numbered r its h = rw h at (answered s held room)
+
+  pub sent-has-its-places : SentHasItsPlaces s held room
+  sent-has-its-places a its n h t = let p : SentPlaces a = rw h at (answered s held room) in rw t at p
 
   pub read-once : ReadOnce s held room
   read-once x y map map₁ map₂ e f g h = (e ∙ sym f, g ∙ sym h)

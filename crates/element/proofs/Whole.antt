@@ -1,17 +1,17 @@
 -- From the walk behind the configuration to the answer of the whole element.
 use mathlib.Core.Path.{_≡_, refl, ap, sym, _∙_}
-use mathlib.Core.Bool.{Bool, true, false, cond, _||_}
-use mathlib.Core.List.{List, [], _∷_, _++_, append-nil}
+use mathlib.Core.Bool.{Bool, true, false, cond}
+use mathlib.Core.List.{List, [], _++_, append-nil}
 use Prim.Native.Nat.{ℕ, _+_, _*_, _-_, _≤_, _<_}
 use native.Mathlib.Omega.{arith}
-use lib.Dec.{eqb, ltb}
+use lib.Dec.{eqb}
 use lib.ListN.{length, take, drop}
 use borrow.Author.Tests.{lt-ltb, le-ltb, eq-eqb, ne-eqb}
 use Rattle.kernel.specs.declared.Refusal.{Refusal}
 use Rattle.kernel.specs.declared.Window.the-variants.{Open}
 use Rattle.kernel.specs.Reading.{Outcome, gave, refused, stop, run, field, Sound}
 use Rattle.kernel.specs.Answer.{told, value, refusal}
-use Rattle.kernel.specs.Element.{Item, Passage, came, fell, done, part, fields, item, withItem, next, walk, read, Answer, accepted, rejected, ended}
+use Rattle.kernel.specs.Element.{Item, Passage, came, fell, done, fields, item, withItem, next, walk, read, Answer, accepted, rejected, ended}
 use Rattle.kernel.proofs.Chain.{Comes, apart, gave-told, on, off, holds, fails, gives, steady}
 use Rattle.kernel.proofs.Run.{run-forward}
 use Rattle.kernel.proofs.Tests.{both}

@@ -1,6 +1,6 @@
 -- The demands, of what a reading of an element replies. proofs/Theorems.antt has the theorem of each.
 use mathlib.Core.Path.{_≡_}
-use mathlib.Core.Bool.{cond, _||_}
+use mathlib.Core.Bool.{true, cond, _||_}
 use mathlib.Core.List.{List, [], _∷_, _++_}
 use Prim.Native.Nat.{ℕ, zero, suc, _+_, _*_, _≤_, _<_}
 use lib.Dec.{eqb}
@@ -102,6 +102,15 @@ module _ (s : List ℕ) (held : Held) (room : ℕ) where
   abbrev pub RefusalLosesNothing : Type 0
   RefusalLosesNothing = (r : Stop) (its : List Item) → answer s held room ≡ rejected r its
       → (replyOf s held room .held ≡ held) × ((map : List ℕ) → mapAfter map (answer s held room) ≡ map)
+
+  -- a refusal is one of the table's
+  abbrev pub RefusalIsNumbered : Type 0
+  RefusalIsNumbered = (r : Stop) (its : List Item) → answer s held room ≡ rejected r its → (1 ≤ r .refusal .number) × (r .refusal .number ≤ 15)
+
+  -- a record that was sent has 16 places in each of its arrays, so that it fits the types of the code
+  abbrev pub SentHasItsPlaces : Type 0
+  SentHasItsPlaces = (a : Applied) (its : List Item) (n : ℕ) → answer s held room ≡ accepted a its n
+      → a .sent ≡ true → (length (a .config .layers) ≡ 16) × (length (a .config .streams) ≡ 16)
 
   -- the promise of `read` allows one reply and one final map
   abbrev pub ReadOnce : Type 0

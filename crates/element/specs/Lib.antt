@@ -1,4 +1,4 @@
--- The element: its tree, the map and the reply of a reading, the claims, and the worked cases.
+-- The element: its tree, the map and the reply of a reading, the claims, the worked cases, and what inner functions promise.
 pub mod Mux
 pub mod Reply
 pub mod Parts

@@ -46,7 +46,7 @@ pub record Goes {A : Type 0} (s : List ℕ) (e : Element A) (at n k : ℕ) (stor
 abbrev pub PassesOver : List ℕ → ℕ → ℕ → ℕ → ℕ → ℕ → ℕ → Bool → List ℕ → Told ℕ → List ℕ → Type 0
 PassesOver s kind stream w at n k store map o out = (c : Passing) → Goes s (passOver c kind stream w) at n k store map o out
 
--- the same by the verdict, where r was sent
+-- what is held after a verdict, where r was sent
 abbrev pub heldSent : Verdict → Record → Held → Held
 heldSent (Accepted k n sent) r held = record { present = true; config = r }
 heldSent (Refused x) r held = held

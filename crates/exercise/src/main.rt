@@ -6,17 +6,9 @@ mod writing;
 
 use element::Held;
 use element::nothing_held;
-use input::CUT;
 use input::number;
-use input::take;
-use input::take_words;
 use reading::Next;
 use reading::after;
-use say::say;
-use say::say_number;
-use say::say_refused;
-use say::say_row;
-use say::say_word;
 
 // One case, by the letter of its kind.
 fn one(held: Held, numbers: &mut [u32], bytes: &mut [u8], more: &mut [u8], out: &mut [u8]) -> Next {

@@ -1,13 +1,13 @@
 // Cases that read: H, R, W and S.
-use crate::CUT;
-use crate::number;
-use crate::say;
-use crate::say_number;
-use crate::say_refused;
-use crate::say_row;
-use crate::say_word;
-use crate::take;
-use crate::take_words;
+use crate::input::CUT;
+use crate::input::number;
+use crate::input::take;
+use crate::input::take_words;
+use crate::say::say;
+use crate::say::say_number;
+use crate::say::say_refused;
+use crate::say::say_row;
+use crate::say::say_word;
 use element::Held;
 use element::Verdict;
 use records::Record;

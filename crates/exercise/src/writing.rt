@@ -1,10 +1,10 @@
 // Cases that write: P and F.
-use crate::number;
-use crate::say;
-use crate::say_number;
-use crate::say_refused;
-use crate::take;
-use crate::take_words;
+use crate::input::number;
+use crate::input::take;
+use crate::input::take_words;
+use crate::say::say;
+use crate::say::say_number;
+use crate::say::say_refused;
 use kernel::Refusal;
 use records::Record;
 use sync::Framed;

@@ -8,7 +8,7 @@ use Rattle.records.specs.Table.{streamsIn, tableOf}
 use Rattle.asc.specs.Values.{bytesFrom, latmGetValue}
 use Rattle.asc.specs.Asc.{objectType, anyType, frequency, channelConfiguration, unset, psExtension, psTail, sbrExtension, extensionType, syncExtension, tail, gaSpecificConfig, alone, audioSpecificConfig}
 use Rattle.config.specs.Mux.{windowed, configuration, frameLength, layer, layers, programs, muxHead, muxTail, streamMuxConfig}
-use Rattle.element.specs.Mux.{slotFrom, slotOf, payloadLengthInfo, payloadMux, subframe, subframes, otherData, byteAlignment, body, applied, useSameStreamMux, afterFlag, audioMuxElement, rest}
+use Rattle.element.specs.Mux.{slotFrom, slotOf, payloadLengthInfo, payloadMux, subframe, subframes, otherData, byteAlignment, applied, useSameStreamMux, afterFlag, audioMuxElement, rest}
 use Rattle.element.specs.Reply.{answer}
 use Rattle.sync.specs.Sync.{firstOf}
 use Rattle.listing.specs.Listing.{listedFrom, itemLines}

@@ -1,7 +1,7 @@
 // Lists a capture: a record of 24 bytes for each item of an accepted element, and one for a refused element.
 ghost use mathlib.Core.Path.{_≡_};
 ghost use Prim.Native.Nat.{_+_, _*_, _≤_};
-ghost use lib.ListN.{length, getD, drop};
+ghost use lib.ListN.{length, drop};
 ghost use Rattle.kernel.specs.Lists.{Stored};
 ghost use Rattle.element.specs.Reply.{answer, replyOf};
 ghost use Rattle.listing.specs.Listing.{lineOf, letterOf, refusedLine, listed};

@@ -1,6 +1,6 @@
 // The record that words are.
 ghost use mathlib.Core.Path.{_≡_};
-ghost use Prim.Native.Nat.{_+_, _≤_};
+ghost use Prim.Native.Nat.{_≤_};
 ghost use lib.ListN.{length};
 ghost use Rattle.record_words.specs.Words.{freqFrom, formFrom, streamFrom, layersFrom, streamsFrom, wordsOf, recordFrom, sameWords, recordIn};
 use crate::lay_record;

@@ -1,6 +1,6 @@
 // Writes each accepted element of a capture anew, in a frame: the same record, slots and other data.
 ghost use mathlib.Core.Path.{_≡_};
-ghost use Prim.Native.Nat.{_+_, _*_, _≤_, _<_};
+ghost use Prim.Native.Nat.{_+_, _≤_, _<_};
 ghost use lib.ListN.{length};
 use element::Held;
 use element::Verdict;
@@ -246,6 +246,8 @@ fn all(
 fn main() {
     let mut buf = io::large_buffer();
     let n = io::read_full(0, &mut buf);
+    let mut more = [0; 1];
+    let over = io::read_full(0, &mut more);
     let mut map = [0; 4368];
     let mut lengths = [0; 1092];
     let mut payload = [0; 8192];
@@ -261,4 +263,10 @@ fn main() {
         &mut out,
         &mut frame,
     );
+    if over == 1 {
+        io::write_all(
+            2,
+            b"the capture is longer than 65536 bytes: only the first 65536 were rewritten\n",
+        );
+    }
 }

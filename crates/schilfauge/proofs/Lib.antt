@@ -1,6 +1,4 @@
 -- Laws of the words lent, and the theorems.
 pub mod Signed
-pub mod Kept
-pub mod Productions
 pub mod Words
 pub mod Theorems

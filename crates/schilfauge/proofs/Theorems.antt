@@ -26,8 +26,8 @@ use Rattle.writer.specs.declared.Written.the-variants as written
 use Rattle.writer.specs.Written.{Sent, sizeOf}
 use Rattle.writer.specs.Write.{fits, writtenOf}
 use Rattle.schilfauge.specs.Lent.{heldIn, heldWords, answerIn, heldAfter}
-use Rattle.schilfauge.proofs.Kept.{chosen, Told}
-use Rattle.schilfauge.proofs.Productions.{Places16, IfSent, SentPlaces, answered}
+use Rattle.element.proofs.Kept.{chosen, Told}
+use Rattle.element.proofs.Productions.{Places16, IfSent, SentPlaces, answered}
 use Rattle.schilfauge.specs.Claims.{LaidIsHeld, NextFindsHeld, RefusalKeepsWords, RefusedIs20, RefusedIs1To15, RefusedIs16To19, RefusedIs2Or19, HuntOnce, ReadOnce, RowOnce, WriteOnce, FrameOnce}
 
 -- ---- words laid are found again

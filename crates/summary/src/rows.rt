@@ -1,5 +1,4 @@
 // The rows of a record, in stream order.
-ghost use mathlib.Core.Path.{_≡_};
 ghost use Prim.Native.Nat.{_+_, _≤_, _<_};
 ghost use Rattle.kernel.specs.Lists.{Stored};
 ghost use Rattle.summary.specs.Summary.{foundText, layersText, rowsText};

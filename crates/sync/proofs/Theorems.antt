@@ -1,7 +1,7 @@
 -- The theorem of each claim in specs/Claims.antt.
 use mathlib.Core.Path.{_≡_, refl, sym, _∙_, ap}
 use mathlib.Core.Bool.{Bool, true, false, cond}
-use mathlib.Core.List.{List, _++_}
+use mathlib.Core.List.{List}
 use mathlib.Core.Logic.{_⊎_, inl, inr}
 use Prim.Native.Nat.{ℕ, _+_, _-_, _≤_, _<_}
 use native.Mathlib.Omega.{arith}
@@ -17,7 +17,7 @@ use Rattle.kernel.specs.Answer.{unread}
 use Rattle.sync.specs.Claims.{StandsFirst, FoundIsFirst, FirstIsFound, RefusedIsNone, ElementIsInside, WrittenIsFound, WrittenIsFoundBefore, FramedOnce}
 use Rattle.sync.proofs.Places.{hunt-is}
 use Rattle.sync.proofs.First.{past-end, inside, Says, first-says, first-is}
-use Rattle.sync.proofs.Written.{Fits, framed-fits, found-alone, found-before}
+use Rattle.sync.proofs.Written.{framed-fits, found-alone, found-before}
 
 -- what an answer says of the capture from the start on
 abbrev Tells : List ℕ → ℕ → Hunted → Type 0

@@ -1,18 +1,18 @@
 -- What is written is found.
 use mathlib.Core.Path.{_≡_, refl, sym, _∙_, ap, subst}
 use mathlib.Core.Bool.{Bool, true, false, cond, _||_}
-use mathlib.Core.List.{List, [], _∷_, _++_, append-nil}
-use Prim.Native.Nat.{ℕ, _+_, _*_, _/_, _%_, _≤_, _<_}
+use mathlib.Core.List.{List, [], _++_, append-nil}
+use Prim.Native.Nat.{ℕ, _+_, _/_, _≤_}
 use native.Mathlib.Omega.{arith}
 use borrow.Author.Tests.{eqb-false, ltb-false, le-leb, eq-eqb}
 use lib.Dec.{eqb, ltb}
-use lib.ListN.{length, getD, take, drop, length-append}
+use lib.ListN.{length, length-append}
 use lib.Seq.{take-append-seam, getD-append-seam, getD-append-add}
 use Rattle.kernel.proofs.Tests.{or-right}
 use Rattle.sync.specs.declared.Framed.{Framed}
 use Rattle.sync.specs.declared.Framed.the-variants.{Done, Refused}
 use Rattle.sync.specs.declared.Hunted.the-variants.{Found}
-use Rattle.sync.specs.Sync.{marked, sizeAt, frameAt, elementAt, frameOf, framedOf}
+use Rattle.sync.specs.Sync.{marked, sizeAt, frameAt, frameOf, framedOf}
 use Rattle.kernel.specs.Answer.{unread}
 use Rattle.sync.specs.Claims.{FoundAtStart}
 use Rattle.sync.proofs.Places.{first-here, hunt-is}

@@ -1,13 +1,12 @@
 -- Laws of the words of a refusal.
-use mathlib.Core.Path.{_≡_, refl, sym, _∙_}
-use mathlib.Core.List.{List, _++_, map}
+use mathlib.Core.Path.{_≡_, _∙_}
+use mathlib.Core.List.{List, map}
 use Prim.Native.Nat.{ℕ, _-_, _≤_, _<_}
 use Prim.Native.String.{String}
 use native.Mathlib.Omega.{arith}
-use lib.ListN.{length, getD, take, replicate, length-append, length-replicate, List·getD-map, List·getD-eq-default}
+use lib.ListN.{length, getD, take, length-append, length-replicate, List·getD-map, List·getD-eq-default}
 use lib.Seq.{take-append-seam}
 use Rattle.kernel.proofs.Lists.{getD-any}
-use Rattle.text.specs.Text.{letters}
 use Rattle.text.specs.Words.{unknown, refusals, wordsOf, padded}
 
 -- an entry of a table that was made of the words

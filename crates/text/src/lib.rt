@@ -1,7 +1,6 @@
-// Text laid into lent bytes: numbers in a column. Words are laid by `kernel::lay`.
+// Text laid into lent bytes: numbers in a column, and the refusals in words.
 ghost use mathlib.Core.Path.{_≡_};
-ghost use mathlib.Core.List.{[], _∷_};
-ghost use Prim.Native.Nat.{_+_, _-_, _≤_, _<_};
+ghost use Prim.Native.Nat.{_+_, _≤_, _<_};
 ghost use lib.ListN.{length, getD};
 ghost use Rattle.kernel.specs.Lists.{Stored};
 ghost use Rattle.text.specs.Text.{digitOrBlank, figures, number, column};

@@ -8,26 +8,26 @@ use native.Mathlib.Nat.{zero-add, zero-mul, suc-mul, mul-le-mul-left}
 use native.Mathlib.Omega.{arith}
 use borrow.Author.Tests.{eq-eqb, ne-eqb, eqb-true, lt-ltb, le-ltb}
 use lib.Dec.{eqb}
-use lib.ListN.{length, getD, take, drop, length-append}
+use lib.ListN.{length, getD, drop, length-append}
 use lib.Seq.{getD-drop, length-take-le}
 use Rattle.kernel.specs.Answer.{unread}
-use Rattle.kernel.specs.Bits.{bitsOf, Put}
+use Rattle.kernel.specs.Bits.{bitsOf}
 use Rattle.kernel.proofs.Tests.{both, or-right}
 use Rattle.records.specs.declared.Stream.{Stream}
 use Rattle.records.specs.declared.Record.{Record}
 use Rattle.records.specs.Blank.{noStream}
 use Rattle.records.specs.Table.{streamsIn}
 use Rattle.records.specs.Valid.{validOf}
-use Rattle.records.proofs.Apart.{RecordOk, record-ok}
+use Rattle.records.proofs.Apart.{record-ok}
 use Rattle.element.specs.Mux.{streamsOf}
 use Rattle.writer.specs.declared.Measure.{Measure}
 use Rattle.writer.specs.declared.Written.the-variants.{Done, Refused}
 use Rattle.writer.specs.Written.{Piece, bitsIn, sumOf, subframePieces, configPieces, Sent, contentPieces, otherPieces, alignment, elementBits, sizeOf}
-use Rattle.writer.specs.Write.{slotFits, rowFits, slotsFit, otherBytes, fits, writtenOf, outAfter}
-use Rattle.writer.specs.Sizes.{lengthBytes, measureAll, frontBits, otherBits}
+use Rattle.writer.specs.Write.{slotFits, rowFits, slotsFit, otherBytes, fits, writtenOf}
+use Rattle.writer.specs.Sizes.{lengthBytes, measureAll, frontBits}
 use Rattle.writer.specs.Claims.{RightSizes}
 use Rattle.writer.proofs.Pieces.{bits-append}
-use Rattle.writer.proofs.Whole.{Fits, fits-are, slotsIn, content-length, bits-length, whole-bytes}
+use Rattle.writer.proofs.Whole.{fits-are, content-length, bits-length}
 
 module _ (w : Sent) (room : ℕ) where
   pub written-16 : validOf (w .config) ≡ false → Refused (unread 16) ≡ writtenOf w room

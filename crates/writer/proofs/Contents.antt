@@ -1,19 +1,17 @@
 -- What stands in the items of what is written: the payload, and other data.
-use mathlib.Core.Path.{_≡_, refl, sym, _∙_, ap}
-use mathlib.Core.Bool.{Bool, true, false, cond}
-use mathlib.Core.List.{List, [], _∷_, _++_, append-nil, append-assoc}
+use mathlib.Core.Path.{_≡_, refl, sym, _∙_}
+use mathlib.Core.Bool.{Bool, cond}
+use mathlib.Core.List.{List, [], _∷_, _++_, append-assoc}
 use Prim.Native.Nat.{ℕ, zero, suc, _+_, _-_, _*_, _≤_}
-use native.Mathlib.Nat.{add-zero}
 use native.Mathlib.Omega.{arith}
 use lib.Dec.{eqb}
 use lib.ListN.{length, getD, take, drop, length-append, length-drop}
 use lib.Seq.{take-append-seam, drop-append-seam, take-add, length-take-le, drop-drop}
-use Rattle.kernel.specs.Bits.{bitsOf, unpack}
-use Rattle.kernel.specs.Element.{fields, passed, closed, spare}
+use Rattle.kernel.specs.Bits.{unpack}
 use Rattle.kernel.proofs.Held.{length-unpack, unpack-append}
 use Rattle.records.specs.declared.Stream.{Stream}
-use Rattle.element.specs.Mux.{kindL, kindP, kindO}
-use Rattle.writer.specs.Written.{Piece, piece, bitsIn, itemsAt, lengthsBits, payloadPieces, sumOf, subframePieces}
+use Rattle.element.specs.Mux.{kindP, kindO}
+use Rattle.writer.specs.Written.{Piece, bitsIn, itemsAt, payloadPieces, sumOf, subframePieces}
 use Rattle.writer.specs.Claims.{contentsOf, widthsOf, widths}
 use Rattle.writer.proofs.TripElement.{sum-split}
 

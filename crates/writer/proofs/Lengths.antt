@@ -1,20 +1,20 @@
 -- How many bits are written.
-use mathlib.Core.Path.{_≡_, refl, sym, _∙_, ap}
+use mathlib.Core.Path.{_≡_, refl, _∙_}
 use mathlib.Core.Bool.{Bool, true, false, cond}
-use mathlib.Core.List.{List, [], _∷_, _++_}
-use Prim.Native.Nat.{ℕ, zero, suc, _+_, _-_, _*_, _/_, _%_, _≤_, _<_}
+use mathlib.Core.List.{List, [], _∷_}
+use Prim.Native.Nat.{ℕ, zero, suc, _+_, _-_, _*_, _/_, _≤_}
 use native.Mathlib.Omega.{arith}
 use lib.Dec.{eqb}
 use lib.ListN.{length, getD, take, drop, length-append, length-drop}
 use lib.Seq.{length-take-le}
-use Rattle.kernel.specs.Bits.{bitsOf, unpack}
+use Rattle.kernel.specs.Bits.{unpack}
 use Rattle.kernel.specs.Element.{passed, closed}
 use Rattle.kernel.proofs.Bits.{length-bitsOf}
 use Rattle.kernel.proofs.Held.{length-unpack}
 use Rattle.records.specs.declared.Stream.{Stream}
 use Rattle.element.specs.Mux.{kindO}
-use Rattle.writer.specs.Written.{Piece, piece, bitsIn, onesBits, lengthBits, slotBits, lengthsBits, payloadPieces, sumOf, subframePieces}
-use Rattle.writer.specs.Sizes.{slotBytes, rowBytes, lengthBytes}
+use Rattle.writer.specs.Written.{piece, bitsIn, onesBits, lengthBits, lengthsBits, payloadPieces, sumOf, subframePieces}
+use Rattle.writer.specs.Sizes.{rowBytes, lengthBytes}
 use Rattle.writer.proofs.Pieces.{bits-append}
 use Rattle.writer.proofs.TripElement.{sum-split}
 

@@ -1,14 +1,14 @@
 -- Laws of pieces: one run of them after another, and what reads them back.
-use mathlib.Core.Path.{_≡_, refl, sym, _∙_, subst}
-use mathlib.Core.Bool.{Bool, true, false, cond}
-use mathlib.Core.List.{List, [], _∷_, _++_, append-nil, append-assoc}
-use Prim.Native.Nat.{ℕ, zero, suc, _+_, _-_, _*_, _%_, _≤_}
+use mathlib.Core.Path.{_≡_, refl}
+use mathlib.Core.Bool.{Bool}
+use mathlib.Core.List.{List, [], _∷_, _++_, append-assoc}
+use Prim.Native.Nat.{ℕ, _+_, _-_}
 use native.Mathlib.Nat.{add-zero}
 use native.Mathlib.Omega.{arith}
 use lib.ListN.{length, length-append}
 use Rattle.kernel.specs.declared.Window.the-variants.{Open}
 use Rattle.kernel.specs.Reading.{Reading}
-use Rattle.kernel.specs.Element.{Item, Element, done, part, over, spot, follow, Passing, closed, spare, fields, passed}
+use Rattle.kernel.specs.Element.{Element, done, part, over, spot, follow, Passing, fields, passed}
 use Rattle.kernel.specs.Trip.{Reads, ReadsAll}
 use Rattle.kernel.proofs.Trip.{reads-done, reads-part, reads-over, reads-spot, reads-follow}
 use Rattle.writer.specs.Written.{Piece, piece, bitsIn, itemsAt}

@@ -1,18 +1,17 @@
 -- What is written of an element reads back, part by part.
-use mathlib.Core.Path.{_≡_, refl, sym, _∙_, ap, subst}
-use mathlib.Core.Bool.{Bool, true, false, cond, _&&_, _||_}
+use mathlib.Core.Path.{_≡_, refl, _∙_, subst}
+use mathlib.Core.Bool.{Bool, true, false, cond}
 use mathlib.Core.List.{List, [], _∷_, _++_, append-nil, append-assoc}
 use Prim.Native.Nat.{ℕ, zero, suc, _+_, _-_, _*_, _/_, _%_, _≤_, _<_}
-use native.Mathlib.Nat.{add-zero, mod-lt}
 use native.Mathlib.Omega.{arith}
-use borrow.Author.Tests.{eqb-true, eq-eqb, ne-eqb}
+use borrow.Author.Tests.{eqb-true, ne-eqb}
 use lib.Dec.{eqb}
-use lib.ListN.{length, getD, take, drop, length-append, length-drop}
-use lib.Seq.{length-take-le, append-snoc, drop-drop, getD-drop}
+use lib.ListN.{length, getD, take, drop, length-drop}
+use lib.Seq.{length-take-le, append-snoc, drop-drop}
 use Rattle.kernel.specs.declared.Window.the-variants.{Open}
 use Rattle.kernel.specs.Bits.{bitsOf, unpack}
-use Rattle.kernel.specs.Reading.{Reading, give, field, choose, need, _>>=_, _>>_}
-use Rattle.kernel.specs.Element.{Element, done, part, over, spot, follow, closed, spare, fields, passed}
+use Rattle.kernel.specs.Reading.{give, _>>=_, _>>_}
+use Rattle.kernel.specs.Element.{done, closed, fields, passed}
 use Rattle.kernel.specs.Trip.{Reads}
 use Rattle.kernel.proofs.Bits.{length-bitsOf}
 use Rattle.kernel.proofs.Held.{length-unpack}
@@ -22,7 +21,7 @@ use Rattle.records.specs.declared.Stream.{Stream}
 use Rattle.records.specs.declared.Record.{Record}
 use Rattle.config.specs.Mux.{streamMuxConfig, muxBits}
 use Rattle.element.specs.declared.Held.{Held}
-use Rattle.element.specs.Mux.{kindU, kindC, kindL, kindP, kindO, kindA, Applied, slotFrom, slotOf, payloadLengthInfo, payloadMux, subframe, subframes, otherData, byteAlignment, rest, body, applied, usable, useSameStreamMux, sentElement, afterFlag, audioMuxElement, streamsOf}
+use Rattle.element.specs.Mux.{kindU, kindC, kindL, kindO, slotFrom, slotOf, payloadLengthInfo, payloadMux, subframe, subframes, otherData, byteAlignment, rest, applied, usable, useSameStreamMux, afterFlag, audioMuxElement, streamsOf}
 use Rattle.writer.specs.Written.{Piece, piece, bitsIn, onesBits, lengthBits, slotBits, lengthsBits, payloadPieces, sumOf, subframePieces, otherPieces, alignment}
 use Rattle.writer.specs.Write.{slotFits, rowFits, slotsFit}
 use Rattle.writer.specs.Claims.{widths}

@@ -1,35 +1,34 @@
 -- The element whole: what is written, reads back.
-use mathlib.Core.Path.{_≡_, refl, sym, _∙_, ap, subst}
-use mathlib.Core.Bool.{Bool, true, false, cond, _&&_, _||_}
+use mathlib.Core.Path.{_≡_, refl, sym, _∙_, ap}
+use mathlib.Core.Bool.{Bool, true, false, cond}
 use mathlib.Core.List.{List, [], _∷_, _++_, append-nil, append-assoc}
 use mathlib.Core.Logic.{_⊎_, inl, inr}
-use Prim.Native.Nat.{ℕ, _+_, _-_, _*_, _/_, _%_, _^_, _≤_, _<_}
+use Prim.Native.Nat.{ℕ, _+_, _-_, _*_, _/_, _%_, _≤_}
 use native.Mathlib.Omega.{arith}
 use borrow.Author.Tests.{ltb-false, eqb-true, le-ltb, ne-eqb}
 use lib.Dec.{eqb, ltb}
-use lib.ListN.{length, getD, take, drop, length-append}
-use lib.Seq.{take-length, take-append-seam}
-use Rattle.kernel.specs.declared.Window.the-variants.{Open}
+use lib.ListN.{length, take, length-append}
+use lib.Seq.{take-length}
 use Rattle.kernel.specs.Bits.{bit, bitsOf, unpack, pack}
-use Rattle.kernel.specs.Element.{Item, Element, accepted, rejected, Answer as Read, countOf, read, fields, passed, closed, spare}
-use Rattle.kernel.specs.Trip.{Reads, Accepts}
+use Rattle.kernel.specs.Element.{Item, accepted, rejected, Answer as Read, countOf, read, fields, passed, closed}
+use Rattle.kernel.specs.Trip.{Accepts}
 use Rattle.kernel.proofs.Bits.{length-bitsOf}
-use Rattle.kernel.proofs.Held.{length-unpack, length-pack, unpack-pack}
+use Rattle.kernel.proofs.Held.{length-pack, unpack-pack}
 use Rattle.kernel.proofs.Tests.{both}
 use Rattle.kernel.proofs.Trip.{packed-reads}
 use Rattle.records.specs.declared.Record.{Record}
 use Rattle.records.specs.Valid.{validOf}
-use Rattle.config.specs.Mux.{streamMuxConfig, muxBits}
+use Rattle.config.specs.Mux.{muxBits}
 use Rattle.config.proofs.Theorems.{record-reads-back}
 use Rattle.element.specs.declared.Held.{Held}
-use Rattle.element.specs.Mux.{kindU, kindC, kindP, kindO, kindA, Applied, usable, audioMuxElement, streamsOf}
+use Rattle.element.specs.Mux.{kindU, kindC, kindP, kindO, usable, audioMuxElement, streamsOf}
 use Rattle.element.specs.Reply.{answer}
 use Rattle.writer.specs.declared.Written.{Written}
 use Rattle.writer.specs.declared.Written.the-variants.{Done, Refused}
 use Rattle.writer.specs.Written.{Piece, piece, bitsIn, itemsAt, sumOf, subframePieces, otherPieces, configPieces, Sent, contentPieces, alignment, pieces, elementBits, sizeOf}
-use Rattle.writer.specs.Write.{slotsFit, otherBytes, fits, writtenOf, outAfter}
+use Rattle.writer.specs.Write.{slotsFit, otherBytes, fits, writtenOf}
 use Rattle.writer.specs.Sizes.{lengthBytes, frontBits}
-use Rattle.writer.specs.Claims.{contentsOf, widthsOf, widths, Typed, ReadsBack}
+use Rattle.writer.specs.Claims.{widths, Typed, ReadsBack}
 use Rattle.writer.proofs.Pieces.{bits-append, Spelt}
 use Rattle.writer.proofs.TripElement.{lastPieces, held-trip, sent-trip}
 use Rattle.writer.proofs.Contents.{keptBits, keptWidths, contents-kept, widths-kept, kept-append, kept-widths-append, slots-kept, slots-widths, slots-other}

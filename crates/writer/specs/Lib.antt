@@ -1,4 +1,4 @@
--- What is written of an element, what `write` answers, what is claimed of it, and what the functions that measure promise.
+-- What is written of an element, what `write` answers, what is claimed of it, the worked cases, and what the functions that measure promise.
 pub mod Written
 pub mod Write
 pub mod Claims

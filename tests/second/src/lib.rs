@@ -1,4 +1,4 @@
-//! A second program for LOAS/LATM captures, written from document 01 alone.
+//! A second program for LOAS/LATM captures; reading, hunting, rows and writing are from document 01 alone.
 //! It shares no code with the library and is there to be compared with it.
 
 pub mod answers;

@@ -1,7 +1,7 @@
 -- `listing::lay_items` meets its contract.
 use native.Mathlib.Omega.{arith}
-use mathlib.Core.Path.{_≡_, refl, _∙_, sym}
-use Prim.Native.Nat.{_+_, _-_, _*_, _≤_}
+use mathlib.Core.Path.{_≡_}
+use Prim.Native.Nat.{_-_, _*_, _≤_}
 use lib.ListN.{length, drop}
 use Rattle.kernel.specs.Lists.{Stored}
 use Rattle.kernel.proofs.Lists.{ToStore, store-all, store-on, stored-none, stored-length}

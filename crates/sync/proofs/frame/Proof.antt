@@ -1,7 +1,7 @@
 -- `sync::frame` meets its contract.
 use native.Mathlib.Omega.{arith}
-use mathlib.Core.Path.{_≡_, refl, _∙_, sym, ap}
-use lib.ListN.{length, length-set}
+use mathlib.Core.Path.{refl, _∙_, sym, ap}
+use lib.ListN.{length-set}
 use Rattle.kernel.proofs.Lists.{stored-length}
 use Rattle.sync.specs.declared.Framed.the-variants.{Done, Refused}
 use Rattle.sync.proofs.Frames.{no-byte, too-long, no-room, with-room, stored-is}

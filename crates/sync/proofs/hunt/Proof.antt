@@ -1,10 +1,9 @@
 -- `sync::hunt` meets its contract.
 use native.Mathlib.Omega.{arith}
 use Rattle.sync.proofs.Places.{hunt-over, hunt-is}
-use mathlib.Core.Path.{_≡_, refl, sym, _∙_, ap}
-use Prim.Native.Nat.{_+_, _≤_, _-_}
+use mathlib.Core.Path.{_≡_, sym, _∙_, ap}
+use Prim.Native.Nat.{_≤_, _-_}
 use lib.ListN.{length}
-use borrow.Author.Tests.{lt-ltb, le-ltb}
 use Rattle.sync.specs.declared.Hunted.the-variants.{Found, Refused}
 use Rattle.sync.specs.Sync.{firstOf}
 use Rattle.sync.proofs.Places.{first-here, first-on, first-none}

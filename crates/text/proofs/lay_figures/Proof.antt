@@ -1,8 +1,7 @@
 -- `text::lay_figures` meets its contract.
 use native.Mathlib.Omega.{arith}
-use mathlib.Core.Path.{_≡_, refl, sym, _∙_}
+use mathlib.Core.Path.{_≡_, refl}
 use Prim.Native.Nat.{_+_, _-_, _≤_}
-use lib.ListN.{length}
 use lib.Seq.{sets}
 use Rattle.kernel.specs.Lists.{Stored}
 use Rattle.kernel.proofs.Lists.{stored-length}

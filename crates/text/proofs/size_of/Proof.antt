@@ -1,6 +1,5 @@
 -- `text::size_of` meets its contract.
 use native.Mathlib.Omega.{arith}
-use Prim.Native.Nat.{ℕ}
 use Prim.Native.String.{String}
 use lib.ListN.{length}
 use Rattle.text.specs.Text.{letters}

@@ -1,7 +1,6 @@
 -- `writer::put_front` meets its contract.
 use native.Mathlib.Omega.{arith}
-use mathlib.Core.Path.{subst}
-use Rattle.kernel.proofs.Laid.{put-then, put-length}
+use Rattle.kernel.proofs.Laid.{put-then}
 use Rattle.writer.proofs.Parts.{front-sent, front-held}
 use borrow.Author.Needs.{needs}
 use Rattle.writer.proofs.put_front.Statement.{statement}

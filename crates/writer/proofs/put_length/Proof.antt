@@ -2,7 +2,7 @@
 use Rattle.kernel.specs.Bits.{Put}
 use native.Mathlib.Omega.{arith}
 use mathlib.Core.Path.{_≡_}
-use Prim.Native.Nat.{_+_, _*_, _/_, _≤_, _<_}
+use Prim.Native.Nat.{_+_, _*_, _/_, _≤_}
 use Rattle.kernel.proofs.Laid.{Left, left-all, left-put, put-length}
 use Rattle.writer.specs.Written.{lengthBits}
 use Rattle.writer.proofs.Rows.{length-turn, length-last}

@@ -4,7 +4,7 @@ use lib.ListN.{length}
 use Rattle.kernel.proofs.Laid.{put-front}
 use Rattle.writer.proofs.Whole.{fits-are, whole-bytes}
 use native.Mathlib.Omega.{arith}
-use mathlib.Core.Path.{_≡_, refl, sym, _∙_, ap}
+use mathlib.Core.Path.{_≡_, refl, _∙_, ap}
 use Rattle.records.proofs.Apart.{record-ok}
 use Rattle.writer.specs.declared.Written.the-variants.{Done, Refused}
 use Rattle.writer.specs.Written.{Sent, toSend, sizeOf}

@@ -37,8 +37,12 @@ fn main() -> std::io::Result<()> {
     };
     let mut capture = Vec::new();
     std::fs::File::open(path)?
-        .take(CAPTURE_BYTES as u64)
+        .take(CAPTURE_BYTES as u64 + 1)
         .read_to_end(&mut capture)?;
+    if capture.len() > CAPTURE_BYTES {
+        eprintln!("only the first {CAPTURE_BYTES} bytes of the capture are read");
+        capture.truncate(CAPTURE_BYTES);
+    }
 
     println!("element  program  layer  stream  core type    core Hz  output Hz  SBR            PS             output channels");
     let (mut held, mut map, mut at, mut number) = (Held::nothing(), vec![0; MAP_WORDS], 0, 0);

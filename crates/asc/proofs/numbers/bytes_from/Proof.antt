@@ -5,7 +5,7 @@ use native.Mathlib.Omega.{arith}
 use lib.Pow.{pow-pos, pow-mono}
 use denote.Ref.{now}
 use borrow.Author.Needs.{needs}
-use Rattle.kernel.specs.Answer.{value, told, toldFetched}
+use Rattle.kernel.specs.Answer.{told, toldFetched}
 use Rattle.kernel.specs.Reading.{run, field, Sound}
 use Rattle.kernel.proofs.Chain.{Comes, got, same-end, steady, took}
 use Rattle.asc.specs.Values.{bytesFrom}

@@ -6,7 +6,7 @@ use lib.Pow.{pow-mono}
 use denote.Ref.{now}
 use borrow.Author.Needs.{needs}
 use borrow.Author.Tests.{not-true, not-false}
-use Rattle.kernel.specs.Answer.{value, told, toldFetched}
+use Rattle.kernel.specs.Answer.{told, toldFetched}
 use Rattle.kernel.specs.Reading.{run, field, Sound}
 use Rattle.kernel.proofs.Chain.{Comes, got, itself, same-end, steady, took}
 use Rattle.asc.specs.Values.{groupsFrom}

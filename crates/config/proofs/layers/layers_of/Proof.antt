@@ -10,7 +10,6 @@ use Rattle.kernel.proofs.Chain.{Comes, got, itself, same-end, steady}
 use Rattle.asc.specs.Asc.{left}
 use Rattle.config.specs.Mux.{layer, layers, configAt}
 use Rattle.config.specs.Answer.{toldStreamed, whyStreamed}
-use Rattle.config.specs.declared.Streamed.the-variants.{Value}
 use Rattle.config.proofs.Turns.{layers-done, layers-stop, layers-turn}
 use Rattle.config.proofs.layers.layers_of.Statement.{statement}
 use Rattle.config.proofs.layers.layers_of.Tie as tie

@@ -19,7 +19,6 @@ use Rattle.kernel.specs.Lists.{tab}
 use Rattle.kernel.proofs.Lists.{tab-none}
 use Rattle.records.specs.Table.{streamsIn, rowAt}
 use Rattle.records.proofs.Tables.{streams-more, streams-end, table-end}
-use Rattle.config.specs.declared.Verdict.the-variants.{Done}
 use Rattle.config.proofs.Turns.{programs-done, programs-stop, programs-full, programs-cut, programs-turn, row-stored}
 use Rattle.config.proofs.layers.programs_of.Statement.{statement}
 use Rattle.config.proofs.layers.programs_of.Tie as tie

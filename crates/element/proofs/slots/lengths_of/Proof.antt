@@ -10,8 +10,6 @@ use Rattle.kernel.specs.Reading.{run, Sound}
 use Rattle.kernel.proofs.Chain.{Comes, got, itself, same-end, steady}
 use Rattle.element.specs.Mux.{payloadLengthInfo}
 use Rattle.element.specs.Parts.{toldSpanned, whySpanned}
-use Rattle.records.specs.Blank.{noStream}
-use Rattle.element.specs.declared.Spanned.the-variants.{Value}
 use Rattle.element.proofs.Turns.{lengths-done, lengths-stop, lengths-turn, widths-more}
 use Rattle.element.proofs.slots.lengths_of.Statement.{statement}
 use Rattle.element.proofs.slots.lengths_of.Tie as tie

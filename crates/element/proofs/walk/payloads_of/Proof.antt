@@ -9,7 +9,6 @@ use Rattle.kernel.specs.Reading.{Sound}
 use Rattle.element.specs.Mux.{payloadMux}
 use Rattle.element.specs.Parts.{toldPassage, made, storedIf, Goes}
 use Rattle.element.proofs.Goes.{goes-itself, goes-told, goes-back, goes-steady}
-use Rattle.kernel.specs.declared.Fetched.the-variants.{Value}
 use Rattle.kernel.specs.Element.{walk, closed}
 use Rattle.element.proofs.Goes.{payloads-done, payloads-turn, payloads-off}
 use Rattle.element.proofs.walk.payloads_of.Statement.{statement}

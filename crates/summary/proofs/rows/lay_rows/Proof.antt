@@ -1,7 +1,7 @@
 -- `summary::rows::lay_rows` meets its contract.
 use native.Mathlib.Omega.{arith}
 use mathlib.Core.Path.{_≡_}
-use Prim.Native.Nat.{_+_, _-_, _*_, _≤_}
+use Prim.Native.Nat.{_-_, _*_, _≤_}
 use Rattle.kernel.specs.Lists.{Stored}
 use Rattle.kernel.proofs.Lists.{ToStore, store-all, store-on, stored-none, stored-length}
 use Rattle.summary.specs.Summary.{programsText, rowsText}

@@ -15,10 +15,10 @@ use Rattle.asc.specs.Values.{bytesFrom, latmGetValue, groupsFrom}
 use Rattle.asc.specs.Asc.{objectType, anyType, hertz, frequency, channelConfiguration, unset, psExtension, psTail, sbrExtension, extensionType, syncExtension, tail, gaSpecificConfig, alone, underFront, audioSpecificConfig}
 use Rattle.config.specs.declared.Places.{Places}
 use Rattle.config.specs.Mux.{windowed, configuration, frameLength, sentOrSame, layer, layers, programs, variantA, muxHead, otherLength, muxTail, streamMuxConfig}
 use Rattle.element.specs.declared.Held.{Held}
 use Rattle.element.specs.Mux.{Applied, slotFrom, slotOf, payloadLengthInfo, payloadMux, subframe, subframes, otherData, byteAlignment, rest, applied, useSameStreamMux, afterFlag, audioMuxElement}
 use Rattle.element.specs.Reply.{answer}
-use Rattle.schilfauge.proofs.Kept.{chosen, Any, keeps-map, Kept, gives, refuses, refuses-after, either, a-field, a-pass, a-place, a-need, on, then, KeepsAll, keeps-follow, Told, read-keeps}
+use Rattle.element.proofs.Kept.{chosen, Any, keeps-map, Kept, gives, refuses, refuses-after, either, a-field, a-pass, a-place, a-need, on, then, KeepsAll, keeps-follow, Told, read-keeps}
 
 -- ---- numbers of several bytes
 
