@@ -17,7 +17,7 @@ use Rattle.kernel.proofs.Run.{run-forward}
 use Rattle.kernel.proofs.Tests.{both}
 use Rattle.kernel.proofs.Walk.{under, onward, walk-follow, walk-gave}
 use Rattle.records.specs.declared.Record.{Record}
-use Rattle.records.specs.Table.{streamsIn}
+use Rattle.records.specs.Table.{streamsIn, tableOf}
 use Rattle.records.specs.Valid.{validOf}
 use Rattle.records.proofs.Apart.{record-ok}
 use Rattle.config.specs.Mux.{streamMuxConfig}
@@ -27,8 +27,8 @@ use Rattle.element.specs.declared.Verdict.{Verdict}
 use Rattle.element.specs.declared.Verdict.the-variants.{Accepted, Refused}
 use Rattle.element.specs.declared.Reply.{Reply}
 use Rattle.element.specs.Mux.{kindU, kindC, Applied, body, applied, rest, usable, useSameStreamMux, sentElement, afterFlag, audioMuxElement}
-use Rattle.element.specs.Reply.{answer, numbers, verdictOf, mapAfter, replyWith}
-use Rattle.element.specs.Parts.{fronted, verdictFrom, mapFrom, replySent, behindOf, sentOf}
+use Rattle.element.specs.Reply.{answer, numbers, verdictOf, mapAfter, tableThen, replyWith}
+use Rattle.element.specs.Parts.{fronted, verdictFrom, mapFrom, tableSent, replySent, behindOf, sentOf}
 
 -- a passage with the configuration that applied for its answer
 abbrev with : Applied → Passage Unit → Passage Applied
@@ -107,6 +107,31 @@ reply-kept r held bits (came u its at n) = go (eqb at bits)
     go true = refl
     go false = refl
 
+-- the table then
+table-sent : (r : Record) (table : List (List ℕ)) (bits : ℕ) (x : Passage Unit)
+    → tableSent (verdictOf (ended bits (with (record { sent = true; config = r }) x))) (tableOf (r .layers) (r .programs)) table
+    ≡ tableThen table (ended bits (with (record { sent = true; config = r }) x))
+table-sent r table bits (fell z its) = refl
+table-sent r table bits (came u its at n) = go (eqb at bits)
+  where
+    a : Applied
+    a = record { sent = true; config = r }
+
+    e : Bool → Answer Applied
+    e t = cond t (accepted a its n) (rejected (stop 15 at 0 n) its)
+
+    go : (t : Bool) → tableSent (verdictOf (e t)) (tableOf (r .layers) (r .programs)) table ≡ tableThen table (e t)
+    go true = refl
+    go false = refl
+
+table-kept : (r : Record) (table : List (List ℕ)) (bits : ℕ) (x : Passage Unit) → table ≡ tableThen table (ended bits (with (record { sent = false; config = r }) x))
+table-kept r table bits (fell z its) = refl
+table-kept r table bits (came u its at n) = go (eqb at bits)
+  where
+    go : (t : Bool) → table ≡ tableThen table (cond t (accepted (record { sent = false; config = r }) its n) (rejected (stop 15 at 0 n) its))
+    go true = refl
+    go false = refl
+
 module _ (s : List ℕ) (r : Record) (at n : ℕ) where
   pub behind-is : (sent : Bool) (k : ℕ) → k ≡ streamsIn (r .layers) (r .programs) 16 → (map : List ℕ) {v : Verdict} {map′ : List ℕ}
       → v ≡ verdictFrom sent (8 * length s) (fronted sent at (walk s (rest (r .subframes + 1) (take k (r .streams)) (eqb (r .other) 1) (r .bits)) at n))
@@ -125,6 +150,18 @@ module _ (s : List ℕ) (r : Record) (at n : ℕ) where
   pub behind-kept : (held : Held) → _≡_ {A = Reply} (record { verdict = verdictOf (behindOf s r false at n); held = held }) (replyWith held (behindOf s r false at n))
   behind-kept held = rw (behind-with s r false at n) (reply-kept r held (8 * length s) (fronted false at (walk s (body r) at n)))
 
+  pub behind-table-sent : (table : List (List ℕ)) {v : Verdict} {new : List (List ℕ)} → v ≡ verdictOf (behindOf s r true at n) → new ≡ tableOf (r .layers) (r .programs)
+      → tableSent v new table ≡ tableThen table (behindOf s r true at n)
+  behind-table-sent table e f = rw (e, f, behind-with s r true at n) (table-sent r table (8 * length s) (fronted true at (walk s (body r) at n)))
+
+  pub behind-table-kept : (table : List (List ℕ)) → table ≡ tableThen table (behindOf s r false at n)
+  behind-table-kept table = rw (behind-with s r false at n) (table-kept r table (8 * length s) (fronted false at (walk s (body r) at n)))
+
+-- the answer y is refusal x, so that all that was held or lent is as it was
+abbrev Unchanged : Refusal → Held → List ℕ → List (List ℕ) → Answer Applied → Type 0
+Unchanged x held map table y =
+    (_≡_ {A = Reply} (record { verdict = Refused x; held = held }) (replyWith held y)) × ((map ≡ mapAfter map y) × (table ≡ tableThen table y))
+
 -- a configuration stands behind the flag
 module _ (s : List ℕ) (at n : ℕ) where
   pub sent-done : (r : Record) (at′ n′ : ℕ) → at ≡ 1 → told (run s streamMuxConfig at n) ≡ value r at′ n′ → sentOf s at n ≡ behindOf s r true at′ n′
@@ -140,31 +177,31 @@ module _ (s : List ℕ) (at n : ℕ) where
   pub sent-steady : {r : Record} {at′ n′ : ℕ} → told (run s streamMuxConfig at n) ≡ value r at′ n′ → Sound s at n → Sound s at′ n′
   sent-steady e h = steady {m = streamMuxConfig} (record { is = e }) h
 
-  pub sent-refused : (held : Held) (map : List ℕ) (x : Refusal) → told (run s streamMuxConfig at n) ≡ refusal x
-      → (_≡_ {A = Reply} (record { verdict = Refused x; held = held }) (replyWith held (sentOf s at n))) × (map ≡ mapAfter map (sentOf s at n))
+  pub sent-refused : (held : Held) (map : List ℕ) (table : List (List ℕ)) (x : Refusal) → told (run s streamMuxConfig at n) ≡ refusal x
+      → Unchanged x held map table (sentOf s at n)
   unfolding sentOf walk next withItem
-  sent-refused held map x = go (run s streamMuxConfig at n)
+  sent-refused held map table x = go (run s streamMuxConfig at n)
     where
       all : Outcome Record → Answer Applied
       all o = ended (8 * length s) (withItem (item fields kindU 0 0 1) (next kindC at o (λ r at′ n′. walk s (applied (record { sent = true; config = r })) at′ n′)))
 
-      go : (o : Outcome Record) → told o ≡ refusal x → (_≡_ {A = Reply} (record { verdict = Refused x; held = held }) (replyWith held (all o))) × (map ≡ mapAfter map (all o))
+      go : (o : Outcome Record) → told o ≡ refusal x → Unchanged x held map table (all o)
       go (gave r at′ n′) e = absurd (apart (sym e))
-      go (refused r) e = let q : x ≡ r .refusal = cc in (ap (λ (z : Refusal). record { verdict = Refused z; held = held }) q, refl)
+      go (refused r) e = let q : x ≡ r .refusal = cc in (ap (λ (z : Refusal). record { verdict = Refused z; held = held }) q, (refl, refl))
 
 -- by the flag
 module _ (s : List ℕ) (held : Held) where
-  pub flag-refused : (map : List ℕ) (x : Refusal) → told (run s (useSameStreamMux (usable held)) 0 0) ≡ refusal x
-      → (_≡_ {A = Reply} (record { verdict = Refused x; held = held }) (replyWith held (read s (audioMuxElement held)))) × (map ≡ mapAfter map (read s (audioMuxElement held)))
+  pub flag-refused : (map : List ℕ) (table : List (List ℕ)) (x : Refusal) → told (run s (useSameStreamMux (usable held)) 0 0) ≡ refusal x
+      → Unchanged x held map table (read s (audioMuxElement held))
   unfolding audioMuxElement walk next
-  flag-refused map x = go (run s (useSameStreamMux (usable held)) 0 0)
+  flag-refused map table x = go (run s (useSameStreamMux (usable held)) 0 0)
     where
       all : Outcome ℕ → Answer Applied
       all o = ended (8 * length s) (next kindU 0 o (λ u at′ n′. walk s (afterFlag (eqb u 1) (held .config)) at′ n′))
 
-      go : (o : Outcome ℕ) → told o ≡ refusal x → (_≡_ {A = Reply} (record { verdict = Refused x; held = held }) (replyWith held (all o))) × (map ≡ mapAfter map (all o))
+      go : (o : Outcome ℕ) → told o ≡ refusal x → Unchanged x held map table (all o)
       go (gave u at′ n′) e = absurd (apart (sym e))
-      go (refused r) e = let q : x ≡ r .refusal = cc in (ap (λ (z : Refusal). record { verdict = Refused z; held = held }) q, refl)
+      go (refused r) e = let q : x ≡ r .refusal = cc in (ap (λ (z : Refusal). record { verdict = Refused z; held = held }) q, (refl, refl))
 
   pub flag-sent : (at n : ℕ) → at ≡ 1 → told (run s (useSameStreamMux (usable held)) 0 0) ≡ value 0 at n → read s (audioMuxElement held) ≡ sentOf s at n
   unfolding audioMuxElement sentOf afterFlag

@@ -12,7 +12,7 @@ use Rattle.records.specs.declared.Record.{Record}
 use Rattle.element.specs.declared.Held.{Held}
 use Rattle.element.specs.Mux.{kindU, kindC, kindL, kindP, kindO, kindA, Applied, streamsOf}
 use Rattle.element.specs.declared.Reply.{Reply}
-use Rattle.element.specs.Reply.{answer, replyOf, mapAfter}
+use Rattle.element.specs.Reply.{answer, replyOf, mapAfter, tableThen}
 
 -- payload and other data are closed, alignment is spare, and the other items are read field by field
 abbrev pub contentOf : ℕ → Content
@@ -98,10 +98,10 @@ module _ (s : List ℕ) (held : Held) (room : ℕ) where
   abbrev pub SentStandsAlone : Type 0
   SentStandsAlone = (other : Held) → bitAt s 0 ≡ 0 → answer s held room ≡ answer s other room
 
-  -- a refusal loses nothing: what was held is held, and the map is as it stood
+  -- a refusal loses nothing: what was held is held, and map and table are as they stood
   abbrev pub RefusalLosesNothing : Type 0
   RefusalLosesNothing = (r : Stop) (its : List Item) → answer s held room ≡ rejected r its
-      → (replyOf s held room .held ≡ held) × ((map : List ℕ) → mapAfter map (answer s held room) ≡ map)
+      → (replyOf s held room .held ≡ held) × ((map : List ℕ) → mapAfter map (answer s held room) ≡ map) × ((table : List (List ℕ)) → tableThen table (answer s held room) ≡ table)
 
   -- a refusal is one of the table's
   abbrev pub RefusalIsNumbered : Type 0
@@ -112,7 +112,11 @@ module _ (s : List ℕ) (held : Held) (room : ℕ) where
   SentHasItsPlaces = (a : Applied) (its : List Item) (n : ℕ) → answer s held room ≡ accepted a its n
       → a .sent ≡ true → (length (a .config .layers) ≡ 16) × (length (a .config .streams) ≡ 16)
 
-  -- the promise of `read` allows one reply and one final map
+  -- the promises of `read` and `read_with` allow one reply and one final map
   abbrev pub ReadOnce : Type 0
   ReadOnce = (x y : Reply) (map map₁ map₂ : List ℕ) → x ≡ replyOf s held room → y ≡ replyOf s held room
       → map₁ ≡ mapAfter map (answer s held room) → map₂ ≡ mapAfter map (answer s held room) → (x ≡ y) × (map₁ ≡ map₂)
+
+  -- and that of `read_with` one final table
+  abbrev pub TableOnce : Type 0
+  TableOnce = (table table₁ table₂ : List (List ℕ)) → table₁ ≡ tableThen table (answer s held room) → table₂ ≡ tableThen table (answer s held room) → table₁ ≡ table₂

@@ -51,6 +51,11 @@ abbrev pub heldSent : Verdict → Record → Held → Held
 heldSent (Accepted k n sent) r held = record { present = true; config = r }
 heldSent (Refused x) r held = held
 
+-- the table after a verdict, where `new` was filled
+abbrev pub tableSent : Verdict → List (List ℕ) → List (List ℕ) → List (List ℕ)
+tableSent (Accepted k n sent) new table = new
+tableSent (Refused x) new table = table
+
 abbrev pub replySent : Verdict → Record → Held → Reply
 replySent v r held = record { verdict = v; held = heldSent v r held }
 

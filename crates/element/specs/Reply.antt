@@ -7,6 +7,7 @@ use lib.ListN.{length, drop}
 use Rattle.kernel.specs.Reading.{stop}
 use Rattle.kernel.specs.Element.{Item, Answer, accepted, rejected, read}
 use Rattle.records.specs.Blank.{noRecord}
+use Rattle.records.specs.Table.{tableOf}
 use Rattle.element.specs.declared.Held.{Held}
 use Rattle.element.specs.declared.Verdict.{Verdict}
 use Rattle.element.specs.declared.Verdict.the-variants.{Accepted, Refused}
@@ -48,3 +49,8 @@ replyOf s held room = replyWith held (answer s held room)
 abbrev pub mapAfter : List ℕ → Answer Applied → List ℕ
 mapAfter map (accepted a its n) = numbers its ++ drop (4 * length its) map
 mapAfter map (rejected r its) = map
+
+-- the table lent, afterwards: that of an accepted configuration
+abbrev pub tableThen : List (List ℕ) → Answer Applied → List (List ℕ)
+tableThen table (accepted a its n) = cond (a .sent) (tableOf (a .config .layers) (a .config .programs)) table
+tableThen table (rejected r its) = table

@@ -11,8 +11,8 @@ ghost use Rattle.kernel.specs.Element.{read};
 ghost use Rattle.config.specs.Answer.{Few};
 ghost use Rattle.element.specs.declared.Verdict.the-variants.{Refused};
 ghost use Rattle.element.specs.Mux.{usable, audioMuxElement};
-ghost use Rattle.element.specs.Reply.{nothingHeld, answer, verdictOf, mapAfter, replyWith, replyOf};
-ghost use Rattle.element.specs.Parts.{behindOf, heldSent, sentOf};
+ghost use Rattle.element.specs.Reply.{nothingHeld, answer, verdictOf, mapAfter, tableThen, replyWith, replyOf};
+ghost use Rattle.element.specs.Parts.{behindOf, heldSent, tableSent, sentOf};
 use config::stream_mux_config;
 use config::why_verdict;
 use kernel::Cursor;
@@ -117,15 +117,28 @@ fn held_sent(v: Verdict, r: Record, held: Held) -> Held
     }
 }
 
+// And the caller gets its table.
+fn keep_table(v: Verdict, new: [[u8; 8]; 16], table: &mut [[u8; 8]; 16])
+    ensures { λ _. ⌜ now (table .exit) ≡ tableSent v new (now (table .entry)) ⌝ }
+{
+    match v {
+        Verdict::Accepted(_, _, _) => {
+            *table = new;
+        }
+        Verdict::Refused(_) => {}
+    }
+}
+
 // Behind useSameStreamMux 0.
-fn with_sent(el: &[u8], held: Held, c: Cursor, map: &mut [u32]) -> Reply
+fn with_sent(el: &[u8], held: Held, c: Cursor, map: &mut [u32], table: &mut [[u8; 8]; 16]) -> Reply
     requires { ⌜ (4368 ≤ length (now map)) × (c .at ≡ 1) × Sound (now el) (c .at) (c .read) ⌝ }
     ensures reply { λ r. ⌜ r ≡ replyWith held (sentOf (now (el .entry)) (c .at) (c .read)) ⌝ }
     ensures map { λ r. ⌜ now (map .exit) ≡ mapAfter (now (map .entry)) (sentOf (now (el .entry)) (c .at) (c .read)) ⌝ }
+    ensures table { λ r. ⌜ now (table .exit) ≡ tableThen (now (table .entry)) (sentOf (now (el .entry)) (c .at) (c .read)) ⌝ }
 {
     let none = [255; 8];
-    let mut table = [none; 16];
-    let mux = stream_mux_config(el, c, &mut table);
+    let mut filled = [none; 16];
+    let mux = stream_mux_config(el, c, &mut filled);
     let v = mux.verdict;
     let config::Verdict::Done(c1) = v else {
         let x = why_verdict(v);
@@ -136,6 +149,7 @@ fn with_sent(el: &[u8], held: Held, c: Cursor, map: &mut [u32]) -> Reply
     };
     let r = mux.held;
     let verdict = behind(el, r, true, c1, map);
+    keep_table(verdict, filled, table);
     let kept = held_sent(verdict, r, held);
     Reply {
         verdict: verdict,
@@ -144,10 +158,11 @@ fn with_sent(el: &[u8], held: Held, c: Cursor, map: &mut [u32]) -> Reply
 }
 
 // An element of a length that can be, into a map with room for every item.
-fn element_of(el: &[u8], held: Held, map: &mut [u32]) -> Reply
+fn element_of(el: &[u8], held: Held, map: &mut [u32], table: &mut [[u8; 8]; 16]) -> Reply
     requires { ⌜ (4368 ≤ length (now map)) × (length (now el) ≤ 8191) ⌝ }
     ensures reply { λ r. ⌜ r ≡ replyWith held (read (now (el .entry)) (audioMuxElement held)) ⌝ }
     ensures map { λ r. ⌜ now (map .exit) ≡ mapAfter (now (map .entry)) (read (now (el .entry)) (audioMuxElement held)) ⌝ }
+    ensures table { λ r. ⌜ now (table .exit) ≡ tableThen (now (table .entry)) (read (now (el .entry)) (audioMuxElement held)) ⌝ }
 {
     let flag = fetch(el, Window::Open, Cursor { at: 0, read: 0 }, 1);
     let Fetched::Value(u, c) = flag else {
@@ -158,7 +173,7 @@ fn element_of(el: &[u8], held: Held, map: &mut [u32]) -> Reply
         };
     };
     if u == 0 {
-        return with_sent(el, held, c, map);
+        return with_sent(el, held, c, map, table);
     }
     if usable_held(held) {
         let verdict = behind(el, held.config, false, c, map);
@@ -187,10 +202,12 @@ fn refused_unread(number: usize, held: Held) -> Reply
     }
 }
 
-// One element, with the configuration held before it; its items are stored into the map lent, four numbers each.
-pub fn read(el: &[u8], held: Held, map: &mut [u32]) -> Reply
+// One element, with the configuration held before it; its items are stored into the map lent, four numbers each, and the streams of an
+// accepted configuration into the table lent.
+pub fn read_with(el: &[u8], held: Held, map: &mut [u32], table: &mut [[u8; 8]; 16]) -> Reply
     ensures reply { λ r. ⌜ r ≡ replyOf (now (el .entry)) held (length (now (map .entry))) ⌝ }
     ensures map { λ r. ⌜ now (map .exit) ≡ mapAfter (now (map .entry)) (answer (now (el .entry)) held (length (now (map .entry)))) ⌝ }
+    ensures table { λ r. ⌜ now (table .exit) ≡ tableThen (now (table .entry)) (answer (now (el .entry)) held (length (now (map .entry)))) ⌝ }
 {
     if map.len() < 4368 {
         return refused_unread(1, held);
@@ -202,5 +219,15 @@ pub fn read(el: &[u8], held: Held, map: &mut [u32]) -> Reply
     if length > 8191 {
         return refused_unread(2, held);
     }
-    element_of(el, held, map)
+    element_of(el, held, map, table)
+}
+
+// The same, for callers without rows to show.
+pub fn read(el: &[u8], held: Held, map: &mut [u32]) -> Reply
+    ensures reply { λ r. ⌜ r ≡ replyOf (now (el .entry)) held (length (now (map .entry))) ⌝ }
+    ensures map { λ r. ⌜ now (map .exit) ≡ mapAfter (now (map .entry)) (answer (now (el .entry)) held (length (now (map .entry)))) ⌝ }
+{
+    let none = [255; 8];
+    let mut table = [none; 16];
+    read_with(el, held, map, &mut table)
 }

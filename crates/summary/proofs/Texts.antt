@@ -6,15 +6,16 @@ use Prim.Native.Nat.{ℕ, suc, _+_, _-_, _<_}
 use native.Mathlib.Omega.{arith}
 use lib.ListN.{getD}
 use Rattle.records.specs.declared.Record.{Record}
+use Rattle.records.specs.Table.{tableOf}
 use Rattle.row.specs.declared.Rowed.{Rowed}
 use Rattle.row.specs.Row.{rowIn}
 use Rattle.kernel.specs.Element.{Answer, accepted, rejected}
 use Rattle.element.specs.declared.Held.{Held}
 use Rattle.element.specs.declared.Reply.{Reply}
 use Rattle.element.specs.Mux.{Applied}
-use Rattle.element.specs.Reply.{verdictOf, heldAfter, replyWith}
+use Rattle.element.specs.Reply.{verdictOf, heldAfter, tableThen, replyWith}
 use Rattle.summary.specs.Summary.{foundText, layersText, programsText, acceptedText, shown, saidAfter}
-use Rattle.summary.specs.Replied.{verdictText, verdictSaid}
+use Rattle.summary.specs.Replied.{acceptedBy, verdictText, verdictSaid}
 
 module _ (element : ℕ) (r : Record) (table : List (List ℕ)) where
   pub layers-turn : (p l : ℕ) {stream : ℕ} {x : Rowed} → l < 8 → stream ≡ getD (getD table p []) l 0 → x ≡ rowIn r table p l
@@ -26,24 +27,27 @@ module _ (element : ℕ) (r : Record) (table : List (List ℕ)) where
   unfolding programsText
   programs-turn p h = let n : 16 - p ≡ suc (16 - (p + 1)) = omega arith in rw n
 
--- only a configuration that was sent is looked at
-sent-or-not : (element : ℕ) (held : Held) (b : Bool) (r : Record)
-    → acceptedText element held b ((cond b (record { present = true; config = r }) held) .config) ≡ acceptedText element held b r
-sent-or-not element held true r = refl
-sent-or-not element held false r = refl
+-- only a configuration that was sent is looked at, and its table
+sent-or-not : (element : ℕ) (held : Held) (table : List (List ℕ)) (b : Bool) (r : Record)
+    → acceptedBy element held b ((cond b (record { present = true; config = r }) held) .config) (cond b (tableOf (r .layers) (r .programs)) table)
+    ≡ acceptedText element held b r
+sent-or-not element held table true r = refl
+sent-or-not element held table false r = refl
 
-shown-is : (element : ℕ) (held : Held) (said : Bool) (x : Answer Applied) → verdictText element held said (verdictOf x) (heldAfter held x .config) ≡ shown element held said x
-shown-is element held said (accepted a its n) = sent-or-not element held (a .sent) (a .config)
-shown-is element held said (rejected r its) = refl
+shown-is : (element : ℕ) (held : Held) (said : Bool) (table : List (List ℕ)) (x : Answer Applied)
+    → verdictText element held said (verdictOf x) (heldAfter held x .config) (tableThen table x) ≡ shown element held said x
+shown-is element held said table (accepted a its n) = sent-or-not element held table (a .sent) (a .config)
+shown-is element held said table (rejected r its) = refl
 
 said-is : (said : Bool) (x : Answer Applied) → verdictSaid said (verdictOf x) ≡ saidAfter said x
 said-is said (accepted a its n) = refl
 said-is said (rejected r its) = refl
 
--- of what a reading left: its reply
+-- of what a reading left: its reply and the table
 module _ (held : Held) (said : Bool) (x : Answer Applied) {r : Reply} (e : r ≡ replyWith held x) where
-  pub shown-by : (element : ℕ) → verdictText element held said (r .verdict) (r .held .config) ≡ shown element held said x
-  shown-by element = rw e (shown-is element held said x)
+  pub shown-by : (element : ℕ) (table : List (List ℕ)) {then : List (List ℕ)} → then ≡ tableThen table x
+      → verdictText element held said (r .verdict) (r .held .config) then ≡ shown element held said x
+  shown-by element table q = rw (e, q) (shown-is element held said table x)
 
   pub said-by : verdictSaid said (r .verdict) ≡ saidAfter said x
   said-by = rw e (said-is said x)

@@ -4,8 +4,8 @@ ghost use Prim.Native.Nat.{_≤_};
 ghost use lib.ListN.{length};
 ghost use Rattle.kernel.specs.Lists.{Stored};
 ghost use Rattle.element.specs.Reply.{answer, replyOf};
-ghost use Rattle.summary.specs.Summary.{changes, acceptedText, firstWanting, refusalText, shown, saidAfter};
-ghost use Rattle.summary.specs.Replied.{verdictText, verdictSaid};
+ghost use Rattle.summary.specs.Summary.{changes, firstWanting, refusalText, shown, saidAfter};
+ghost use Rattle.summary.specs.Replied.{acceptedBy, verdictText, verdictSaid};
 
 mod lines;
 mod rows;
@@ -28,11 +28,18 @@ fn changed(held: Held, sent: bool, r: Record) -> bool
     sent & !(held.present & same_record(before, r))
 }
 
-fn lay_accepted(out: &mut [u8], element: usize, held: Held, sent: bool, r: Record) -> usize
-    ensures { λ x. ⌜ (x ≤ 14336) × Stored (now (out .entry)) 0 (acceptedText element held sent r) (now (out .exit)) x ⌝ }
+fn lay_accepted(
+    out: &mut [u8],
+    element: usize,
+    held: Held,
+    sent: bool,
+    r: Record,
+    table: [[u8; 8]; 16],
+) -> usize
+    ensures { λ x. ⌜ (x ≤ 14336) × Stored (now (out .entry)) 0 (acceptedBy element held sent r table) (now (out .exit)) x ⌝ }
 {
     if changed(held, sent, r) {
-        return lay_rows(out, element, r);
+        return lay_rows(out, element, r, table);
     }
     0
 }
@@ -64,11 +71,12 @@ fn lay_verdict(
     said: bool,
     v: Verdict,
     r: Record,
+    table: [[u8; 8]; 16],
 ) -> usize
-    ensures { λ x. ⌜ (x ≤ 14336) × Stored (now (out .entry)) 0 (verdictText element held said v r) (now (out .exit)) x ⌝ }
+    ensures { λ x. ⌜ (x ≤ 14336) × Stored (now (out .entry)) 0 (verdictText element held said v r table) (now (out .exit)) x ⌝ }
 {
     match v {
-        Verdict::Accepted(_, _, sent) => lay_accepted(out, element, held, sent, r),
+        Verdict::Accepted(_, _, sent) => lay_accepted(out, element, held, sent, r, table),
         Verdict::Refused(x) => {
             let wanting = first_wanting(said, x);
             lay_refusal(out, element, wanting, x)
@@ -106,11 +114,13 @@ fn show_element(
     ensures said { λ r. ⌜ r .said ≡ saidAfter said (answer (now (el .entry)) held 4368) ⌝ }
     ensures text { λ r. ⌜ (r .bytes ≤ 14336) × Stored (now (out .entry)) 0 (shown element held said (answer (now (el .entry)) held 4368)) (now (out .exit)) (r .bytes) ⌝ }
 {
-    let reply = element::read(el, held, map);
+    let none = [255; 8];
+    let mut table = [none; 16];
+    let reply = element::read_with(el, held, map, &mut table);
     let v = reply.verdict;
     let after = reply.held;
     let r = after.config;
-    let bytes = lay_verdict(out, element, held, said, v, r);
+    let bytes = lay_verdict(out, element, held, said, v, r, table);
     let then = said_after(said, v);
     Shown {
         held: after,

@@ -1,10 +1,9 @@
 // The rows of a record, in stream order.
 ghost use Prim.Native.Nat.{_+_, _≤_, _<_};
 ghost use Rattle.kernel.specs.Lists.{Stored};
-ghost use Rattle.summary.specs.Summary.{foundText, layersText, rowsText};
+ghost use Rattle.summary.specs.Summary.{foundText, layersText, programsText};
 use crate::lines::lay_row;
 use records::Record;
-use records::table_of;
 use row::Rowed;
 use row::cell_at;
 use row::row_of;
@@ -41,11 +40,9 @@ fn lay_layers(
     to
 }
 
-pub fn lay_rows(out: &mut [u8], element: usize, r: Record) -> usize
-    ensures { λ x. ⌜ (x ≤ 14336) × Stored (now (out .entry)) 0 (rowsText element r) (now (out .exit)) x ⌝ }
+pub fn lay_rows(out: &mut [u8], element: usize, r: Record, table: [[u8; 8]; 16]) -> usize
+    ensures { λ x. ⌜ (x ≤ 14336) × Stored (now (out .entry)) 0 (programsText element r table 0 16) (now (out .exit)) x ⌝ }
 {
-    let layers = r.layers;
-    let table = table_of(layers, r.programs);
     let mut to: usize = 0;
     let mut p: u32 = 0;
     while p < 16 {

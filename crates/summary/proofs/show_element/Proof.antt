@@ -7,8 +7,8 @@ use borrow.Author.Needs.{needs}
 use Rattle.summary.proofs.show_element.Statement.{statement}
 use Rattle.summary.proofs.show_element.Tie as tie
 
-read-requires : tie.Need-read-requires
-read-requires c κs = search needs
+read-with-requires : tie.Need-read-with-requires
+read-with-requires c κs = search needs
 
 lay-verdict-requires : tie.Need-lay-verdict-requires
 lay-verdict-requires c κs = search needs
@@ -25,18 +25,19 @@ same-length-2 c = search needs
 returns : tie.Need-returns
 returns c =
     let b = c .before .before .before .before .before .before .before .before .before in
-    let s = b .before .before .before .before .before in
+    let s = b .before .before .before .before .before .before in
     let a = s .args in
     let x = answer (a .el .now) (a .held) 4368 in
     let n = c .before .before .before .lay-verdict .ensures in
-    let e = rw (s .pre) at (b .read .ensures .0) in
-    (ap (λ (r : Reply). r .held) e, (c .said-after .ensures ∙ said-by (a .held) (a .said) x e, (n .0, rw (shown-by (a .held) (a .said) x e (a .element)) at (n .1))))
+    let e = rw (s .pre) at (b .read-with .ensures .0) in
+    let t = rw (s .pre) at (b .read-with .ensures .1 .1) in
+    (ap (λ (r : Reply). r .held) e, (c .said-after .ensures ∙ said-by (a .held) (a .said) x e, (n .0, rw (shown-by (a .held) (a .said) x e (a .element) _ t) at (n .1))))
 
 pub show-element-spec : {M : Type 1} → statement M
 show-element-spec =
     tie.close
     (tie.spec
-    read-requires
+    read-with-requires
     lay-verdict-requires
     said-after-requires
     same-length

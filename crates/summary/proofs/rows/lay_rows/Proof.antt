@@ -4,7 +4,7 @@ use mathlib.Core.Path.{_≡_}
 use Prim.Native.Nat.{_-_, _*_, _≤_}
 use Rattle.kernel.specs.Lists.{Stored}
 use Rattle.kernel.proofs.Lists.{ToStore, store-all, store-on, stored-none, stored-length}
-use Rattle.summary.specs.Summary.{programsText, rowsText}
+use Rattle.summary.specs.Summary.{programsText}
 use Rattle.summary.proofs.Texts.{programs-turn}
 use borrow.Author.Needs.{needs}
 use Rattle.summary.proofs.rows.lay_rows.Statement.{statement}
@@ -15,9 +15,6 @@ Inv-loop out₀ element r table to₀ p₀ out to p = (p ≤ 16) × (to ≤ 896 
 
 abbrev μ-loop : tie.MeasureT-loop
 μ-loop out₀ element r table to₀ p₀ out to p = 16 - p
-
-table-of-requires : tie.Need-table-of-requires Inv-loop μ-loop
-table-of-requires c κs = search needs
 
 loop-holds : tie.Need-loop-holds Inv-loop μ-loop
 loop-holds c = (omega arith, omega arith, store-all)
@@ -35,15 +32,15 @@ loop-again : tie.Need-loop-again Inv-loop μ-loop
 loop-again c =
     let f = c .before .before in
     let l = f .before .before .before in
-    let a = l .before .before .before .before .args in
-    (omega arith, omega (arith, f .lay-layers .ensures .0, l .loop .inv), store-on (rw (programs-turn (a .element) (a .r) (l .before .table-of .result) (l .loop .p) (omega arith)) at (l .loop .inv .2)) (f .lay-layers .ensures .1))
+    let a = l .before .before .args in
+    (omega arith, omega (arith, f .lay-layers .ensures .0, l .loop .inv), store-on (rw (programs-turn (a .element) (a .r) (a .table) (l .loop .p) (omega arith)) at (l .loop .inv .2)) (f .lay-layers .ensures .1))
 
-done : (c : tie.After-loop Inv-loop μ-loop) → let a = c .before .before .before .before .before .args in
-    Stored (a .out .now) 0 (rowsText (a .element) (a .r)) (c .before .loop .out) (c .before .loop .to)
+done : (c : tie.After-loop Inv-loop μ-loop) → let a = c .before .before .before .args in
+    Stored (a .out .now) 0 (programsText (a .element) (a .r) (a .table) 0 16) (c .before .loop .out) (c .before .loop .to)
 unfolding programsText
 done c =
     let e : 16 - c .before .loop .p ≡ 0 = omega arith in
-    rw (c .before .before .table-of .ensures) at ((rw e at (c .before .loop .inv .2)) .then stored-none)
+    (rw e at (c .before .loop .inv .2)) .then stored-none
 
 same-length : tie.Need-same-length Inv-loop μ-loop
 same-length c = stored-length (done c)
@@ -57,7 +54,6 @@ lay-rows-spec =
     (tie.spec
     Inv-loop
     μ-loop
-    table-of-requires
     loop-holds
     lay-layers-requires
     add-p
