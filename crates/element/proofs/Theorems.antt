@@ -14,7 +14,7 @@ use Rattle.kernel.specs.Element.{fields, Item, item, Passage, withItem, next, w
 use Rattle.kernel.proofs.Theorems as kernel
 use Rattle.element.specs.declared.Held.{Held}
 use Rattle.element.specs.Mux.{kindU, Applied, useSameStreamMux, afterFlag, audioMuxElement}
-use Rattle.element.specs.Reply.{answer, replyWith, mapAfter, tableThen}
+use Rattle.element.specs.Reply.{answer, replyWith, mapAfter, tableAfter}
 use Rattle.element.specs.Claims.{EachBitInOneItem, WidthsAddUp, EachByKind, MapInOrder, AlignmentIsShort, ContentByKind, CountIsBounded, SameAccepted, SameRefused, SentStandsAlone, RefusalLosesNothing, RefusalIsNumbered, SentHasItsPlaces, ReadOnce, TableOnce}
 use Rattle.element.proofs.Order.{element-in-order}
 use Rattle.element.proofs.Contents.{element-by-kind}
@@ -113,7 +113,7 @@ module _ (s : List ℕ) (held : Held) (room : ℕ) where
   sent-stands-alone other e = rw (sent s held other e)
 
   pub refusal-loses-nothing : RefusalLosesNothing s held room
-  refusal-loses-nothing r its h = (ap (λ (z : Answer Applied). replyWith held z .held) h, λ map. ap (mapAfter map) h, λ table. ap (tableThen table) h)
+  refusal-loses-nothing r its h = (ap (λ (z : Answer Applied). replyWith held z .held) h, λ map. ap (mapAfter map) h, λ table. ap (tableAfter table) h)
 
   pub refusal-is-numbered : RefusalIsNumbered s held room
   refusal-is-numbered r its h = rw h at (answered s held room)

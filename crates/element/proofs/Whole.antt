@@ -9,7 +9,7 @@ use lib.ListN.{length, take, drop}
 use borrow.Author.Tests.{lt-ltb, le-ltb, eq-eqb, ne-eqb}
 use Rattle.kernel.specs.declared.Refusal.{Refusal}
 use Rattle.kernel.specs.declared.Window.the-variants.{Open}
-use Rattle.kernel.specs.Reading.{Outcome, gave, refused, stop, run, field, Sound}
+use Rattle.kernel.specs.Reading.{Stop, Outcome, gave, refused, stop, run, field, Sound}
 use Rattle.kernel.specs.Answer.{told, value, refusal}
 use Rattle.kernel.specs.Element.{Item, Passage, came, fell, done, fields, item, withItem, next, walk, read, Answer, accepted, rejected, ended}
 use Rattle.kernel.proofs.Chain.{Comes, apart, gave-told, on, off, holds, fails, gives, steady}
@@ -27,7 +27,7 @@ use Rattle.element.specs.declared.Verdict.{Verdict}
 use Rattle.element.specs.declared.Verdict.the-variants.{Accepted, Refused}
 use Rattle.element.specs.declared.Reply.{Reply}
 use Rattle.element.specs.Mux.{kindU, kindC, Applied, body, applied, rest, usable, useSameStreamMux, sentElement, afterFlag, audioMuxElement}
-use Rattle.element.specs.Reply.{answer, numbers, verdictOf, mapAfter, tableThen, replyWith}
+use Rattle.element.specs.Reply.{answer, numbers, verdictOf, mapAfter, tableAfter, replyWith}
 use Rattle.element.specs.Parts.{fronted, verdictFrom, mapFrom, tableSent, replySent, behindOf, sentOf}
 
 -- a passage with the configuration that applied for its answer
@@ -76,61 +76,15 @@ module _ (a : Applied) (bits : ℕ) where
       go true = refl
       go false = refl
 
--- what is then held
-reply-sent : (r : Record) (held : Held) (bits : ℕ) (x : Passage Unit)
-    → replySent (verdictOf (ended bits (with (record { sent = true; config = r }) x))) r held ≡ replyWith held (ended bits (with (record { sent = true; config = r }) x))
-reply-sent r held bits (fell z its) = refl
-reply-sent r held bits (came u its at n) = go (eqb at bits)
+-- what holds of every answer in which a applied, and of every refusal, holds where a walk ends
+at-the-end : (P : Answer Applied → Type 0) (a : Applied) → ((its : List Item) (n : ℕ) → P (accepted a its n)) → ((r : Stop) (its : List Item) → P (rejected r its))
+    → (bits : ℕ) (x : Passage Unit) → P (ended bits (with a x))
+at-the-end P a f g bits (fell r its) = g r its
+at-the-end P a f g bits (came u its at n) = go (eqb at bits)
   where
-    a : Applied
-    a = record { sent = true; config = r }
-
-    e : Bool → Answer Applied
-    e t = cond t (accepted a its n) (rejected (stop 15 at 0 n) its)
-
-    go : (t : Bool) → replySent (verdictOf (e t)) r held ≡ replyWith held (e t)
-    go true = refl
-    go false = refl
-
-reply-kept : (r : Record) (held : Held) (bits : ℕ) (x : Passage Unit)
-    → (record { verdict = verdictOf (ended bits (with (record { sent = false; config = r }) x)); held = held }) ≡ replyWith held (ended bits (with (record { sent = false; config = r }) x))
-reply-kept r held bits (fell z its) = refl
-reply-kept r held bits (came u its at n) = go (eqb at bits)
-  where
-    a : Applied
-    a = record { sent = false; config = r }
-
-    e : Bool → Answer Applied
-    e t = cond t (accepted a its n) (rejected (stop 15 at 0 n) its)
-
-    go : (t : Bool) → _≡_ {A = Reply} (record { verdict = verdictOf (e t); held = held }) (replyWith held (e t))
-    go true = refl
-    go false = refl
-
--- the table then
-table-sent : (r : Record) (table : List (List ℕ)) (bits : ℕ) (x : Passage Unit)
-    → tableSent (verdictOf (ended bits (with (record { sent = true; config = r }) x))) (tableOf (r .layers) (r .programs)) table
-    ≡ tableThen table (ended bits (with (record { sent = true; config = r }) x))
-table-sent r table bits (fell z its) = refl
-table-sent r table bits (came u its at n) = go (eqb at bits)
-  where
-    a : Applied
-    a = record { sent = true; config = r }
-
-    e : Bool → Answer Applied
-    e t = cond t (accepted a its n) (rejected (stop 15 at 0 n) its)
-
-    go : (t : Bool) → tableSent (verdictOf (e t)) (tableOf (r .layers) (r .programs)) table ≡ tableThen table (e t)
-    go true = refl
-    go false = refl
-
-table-kept : (r : Record) (table : List (List ℕ)) (bits : ℕ) (x : Passage Unit) → table ≡ tableThen table (ended bits (with (record { sent = false; config = r }) x))
-table-kept r table bits (fell z its) = refl
-table-kept r table bits (came u its at n) = go (eqb at bits)
-  where
-    go : (t : Bool) → table ≡ tableThen table (cond t (accepted (record { sent = false; config = r }) its n) (rejected (stop 15 at 0 n) its))
-    go true = refl
-    go false = refl
+    go : (t : Bool) → P (cond t (accepted a its n) (rejected (stop 15 at 0 n) its))
+    go true = f its n
+    go false = g (stop 15 at 0 n) its
 
 module _ (s : List ℕ) (r : Record) (at n : ℕ) where
   pub behind-is : (sent : Bool) (k : ℕ) → k ≡ streamsIn (r .layers) (r .programs) 16 → (map : List ℕ) {v : Verdict} {map′ : List ℕ}
@@ -144,23 +98,30 @@ module _ (s : List ℕ) (r : Record) (at n : ℕ) where
         rw h at f ∙ ends-map a (8 * length s) map x ∙ ap (mapAfter map) (sym (behind-with s r sent at n)),
       )
 
+  behind-ends : (P : Answer Applied → Type 0) (sent : Bool) → ((its : List Item) (k : ℕ) → P (accepted (record { sent = sent; config = r }) its k))
+      → ((z : Stop) (its : List Item) → P (rejected z its)) → P (behindOf s r sent at n)
+  behind-ends P sent f g = rw (behind-with s r sent at n) (at-the-end P (record { sent = sent; config = r }) f g (8 * length s) (fronted sent at (walk s (body r) at n)))
+
+  -- what is then held
   pub behind-sent : (held : Held) → replySent (verdictOf (behindOf s r true at n)) r held ≡ replyWith held (behindOf s r true at n)
-  behind-sent held = rw (behind-with s r true at n) (reply-sent r held (8 * length s) (fronted true at (walk s (body r) at n)))
+  behind-sent held = behind-ends (λ y. replySent (verdictOf y) r held ≡ replyWith held y) true (λ its k. refl) (λ z its. refl)
 
   pub behind-kept : (held : Held) → _≡_ {A = Reply} (record { verdict = verdictOf (behindOf s r false at n); held = held }) (replyWith held (behindOf s r false at n))
-  behind-kept held = rw (behind-with s r false at n) (reply-kept r held (8 * length s) (fronted false at (walk s (body r) at n)))
+  behind-kept held = behind-ends (λ y. _≡_ {A = Reply} (record { verdict = verdictOf y; held = held }) (replyWith held y)) false (λ its k. refl) (λ z its. refl)
 
+  -- the table then
   pub behind-table-sent : (table : List (List ℕ)) {v : Verdict} {new : List (List ℕ)} → v ≡ verdictOf (behindOf s r true at n) → new ≡ tableOf (r .layers) (r .programs)
-      → tableSent v new table ≡ tableThen table (behindOf s r true at n)
-  behind-table-sent table e f = rw (e, f, behind-with s r true at n) (table-sent r table (8 * length s) (fronted true at (walk s (body r) at n)))
+      → tableSent v new table ≡ tableAfter table (behindOf s r true at n)
+  behind-table-sent table e f =
+      rw (e, f) (behind-ends (λ y. tableSent (verdictOf y) (tableOf (r .layers) (r .programs)) table ≡ tableAfter table y) true (λ its k. refl) (λ z its. refl))
 
-  pub behind-table-kept : (table : List (List ℕ)) → table ≡ tableThen table (behindOf s r false at n)
-  behind-table-kept table = rw (behind-with s r false at n) (table-kept r table (8 * length s) (fronted false at (walk s (body r) at n)))
+  pub behind-table-kept : (table : List (List ℕ)) → table ≡ tableAfter table (behindOf s r false at n)
+  behind-table-kept table = behind-ends (λ y. table ≡ tableAfter table y) false (λ its k. refl) (λ z its. refl)
 
 -- the answer y is refusal x, so that all that was held or lent is as it was
 abbrev Unchanged : Refusal → Held → List ℕ → List (List ℕ) → Answer Applied → Type 0
 Unchanged x held map table y =
-    (_≡_ {A = Reply} (record { verdict = Refused x; held = held }) (replyWith held y)) × ((map ≡ mapAfter map y) × (table ≡ tableThen table y))
+    (_≡_ {A = Reply} (record { verdict = Refused x; held = held }) (replyWith held y)) × ((map ≡ mapAfter map y) × (table ≡ tableAfter table y))
 
 -- a configuration stands behind the flag
 module _ (s : List ℕ) (at n : ℕ) where

@@ -12,7 +12,7 @@ use Rattle.records.specs.declared.Record.{Record}
 use Rattle.element.specs.declared.Held.{Held}
 use Rattle.element.specs.Mux.{kindU, kindC, kindL, kindP, kindO, kindA, Applied, streamsOf}
 use Rattle.element.specs.declared.Reply.{Reply}
-use Rattle.element.specs.Reply.{answer, replyOf, mapAfter, tableThen}
+use Rattle.element.specs.Reply.{answer, replyOf, mapAfter, tableAfter}
 
 -- payload and other data are closed, alignment is spare, and the other items are read field by field
 abbrev pub contentOf : ℕ → Content
@@ -101,7 +101,7 @@ module _ (s : List ℕ) (held : Held) (room : ℕ) where
   -- a refusal loses nothing: what was held is held, and map and table are as they stood
   abbrev pub RefusalLosesNothing : Type 0
   RefusalLosesNothing = (r : Stop) (its : List Item) → answer s held room ≡ rejected r its
-      → (replyOf s held room .held ≡ held) × ((map : List ℕ) → mapAfter map (answer s held room) ≡ map) × ((table : List (List ℕ)) → tableThen table (answer s held room) ≡ table)
+      → (replyOf s held room .held ≡ held) × ((map : List ℕ) → mapAfter map (answer s held room) ≡ map) × ((table : List (List ℕ)) → tableAfter table (answer s held room) ≡ table)
 
   -- a refusal is one of the table's
   abbrev pub RefusalIsNumbered : Type 0
@@ -119,4 +119,4 @@ module _ (s : List ℕ) (held : Held) (room : ℕ) where
 
   -- and that of `read_with` one final table
   abbrev pub TableOnce : Type 0
-  TableOnce = (table table₁ table₂ : List (List ℕ)) → table₁ ≡ tableThen table (answer s held room) → table₂ ≡ tableThen table (answer s held room) → table₁ ≡ table₂
+  TableOnce = (table table₁ table₂ : List (List ℕ)) → table₁ ≡ tableAfter table (answer s held room) → table₂ ≡ tableAfter table (answer s held room) → table₁ ≡ table₂

@@ -51,6 +51,6 @@ mapAfter map (accepted a its n) = numbers its ++ drop (4 * length its) map
 mapAfter map (rejected r its) = map
 
 -- the table lent, afterwards: that of an accepted configuration
-abbrev pub tableThen : List (List ℕ) → Answer Applied → List (List ℕ)
-tableThen table (accepted a its n) = cond (a .sent) (tableOf (a .config .layers) (a .config .programs)) table
-tableThen table (rejected r its) = table
+abbrev pub tableAfter : List (List ℕ) → Answer Applied → List (List ℕ)
+tableAfter table (accepted a its n) = cond (a .sent) (tableOf (a .config .layers) (a .config .programs)) table
+tableAfter table (rejected r its) = table

@@ -11,7 +11,7 @@ ghost use Rattle.kernel.specs.Element.{read};
 ghost use Rattle.config.specs.Answer.{Few};
 ghost use Rattle.element.specs.declared.Verdict.the-variants.{Refused};
 ghost use Rattle.element.specs.Mux.{usable, audioMuxElement};
-ghost use Rattle.element.specs.Reply.{nothingHeld, answer, verdictOf, mapAfter, tableThen, replyWith, replyOf};
+ghost use Rattle.element.specs.Reply.{nothingHeld, answer, verdictOf, mapAfter, tableAfter, replyWith, replyOf};
 ghost use Rattle.element.specs.Parts.{behindOf, heldSent, tableSent, sentOf};
 use config::stream_mux_config;
 use config::why_verdict;
@@ -134,7 +134,7 @@ fn with_sent(el: &[u8], held: Held, c: Cursor, map: &mut [u32], table: &mut [[u8
     requires { ⌜ (4368 ≤ length (now map)) × (c .at ≡ 1) × Sound (now el) (c .at) (c .read) ⌝ }
     ensures reply { λ r. ⌜ r ≡ replyWith held (sentOf (now (el .entry)) (c .at) (c .read)) ⌝ }
     ensures map { λ r. ⌜ now (map .exit) ≡ mapAfter (now (map .entry)) (sentOf (now (el .entry)) (c .at) (c .read)) ⌝ }
-    ensures table { λ r. ⌜ now (table .exit) ≡ tableThen (now (table .entry)) (sentOf (now (el .entry)) (c .at) (c .read)) ⌝ }
+    ensures table { λ r. ⌜ now (table .exit) ≡ tableAfter (now (table .entry)) (sentOf (now (el .entry)) (c .at) (c .read)) ⌝ }
 {
     let none = [255; 8];
     let mut filled = [none; 16];
@@ -162,7 +162,7 @@ fn element_of(el: &[u8], held: Held, map: &mut [u32], table: &mut [[u8; 8]; 16])
     requires { ⌜ (4368 ≤ length (now map)) × (length (now el) ≤ 8191) ⌝ }
     ensures reply { λ r. ⌜ r ≡ replyWith held (read (now (el .entry)) (audioMuxElement held)) ⌝ }
     ensures map { λ r. ⌜ now (map .exit) ≡ mapAfter (now (map .entry)) (read (now (el .entry)) (audioMuxElement held)) ⌝ }
-    ensures table { λ r. ⌜ now (table .exit) ≡ tableThen (now (table .entry)) (read (now (el .entry)) (audioMuxElement held)) ⌝ }
+    ensures table { λ r. ⌜ now (table .exit) ≡ tableAfter (now (table .entry)) (read (now (el .entry)) (audioMuxElement held)) ⌝ }
 {
     let flag = fetch(el, Window::Open, Cursor { at: 0, read: 0 }, 1);
     let Fetched::Value(u, c) = flag else {
@@ -207,7 +207,7 @@ fn refused_unread(number: usize, held: Held) -> Reply
 pub fn read_with(el: &[u8], held: Held, map: &mut [u32], table: &mut [[u8; 8]; 16]) -> Reply
     ensures reply { λ r. ⌜ r ≡ replyOf (now (el .entry)) held (length (now (map .entry))) ⌝ }
     ensures map { λ r. ⌜ now (map .exit) ≡ mapAfter (now (map .entry)) (answer (now (el .entry)) held (length (now (map .entry)))) ⌝ }
-    ensures table { λ r. ⌜ now (table .exit) ≡ tableThen (now (table .entry)) (answer (now (el .entry)) held (length (now (map .entry)))) ⌝ }
+    ensures table { λ r. ⌜ now (table .exit) ≡ tableAfter (now (table .entry)) (answer (now (el .entry)) held (length (now (map .entry)))) ⌝ }
 {
     if map.len() < 4368 {
         return refused_unread(1, held);

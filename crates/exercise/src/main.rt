@@ -1,14 +1,12 @@
 // Takes a script of cases and prints every answer in full, as docs/SCRIPT.md says.
-mod input;
 mod reading;
-mod say;
 mod writing;
 
 use element::Held;
 use element::nothing_held;
-use input::number;
 use reading::Next;
 use reading::after;
+use script::number;
 
 // One case, by the letter of its kind.
 fn one(held: Held, numbers: &mut [u32], bytes: &mut [u8], more: &mut [u8], out: &mut [u8]) -> Next {

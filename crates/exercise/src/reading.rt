@@ -1,17 +1,18 @@
 // Cases that read: H, R, W and S.
-use crate::input::CUT;
-use crate::input::number;
-use crate::input::take;
-use crate::input::take_words;
-use crate::say::say;
-use crate::say::say_number;
-use crate::say::say_refused;
-use crate::say::say_row;
-use crate::say::say_word;
 use element::Held;
 use element::Verdict;
 use records::Record;
 use row::Rowed;
+use script::CUT;
+use script::map;
+use script::number;
+use script::say;
+use script::say_number;
+use script::say_refused;
+use script::say_row;
+use script::say_word;
+use script::take;
+use script::take_words;
 use sync::Hunted;
 
 // What is then held, and whether the script goes on.
@@ -42,56 +43,6 @@ pub fn hold(held: Held, words: &mut [u32]) -> Next {
     after(new, true)
 }
 
-fn set_all(map: &mut [u32]) {
-    let mut i: usize = 0;
-    while i < map.len() {
-        map[i] = 7;
-        i += 1;
-    }
-}
-
-// Whether the numbers from a place on are as they were set.
-fn kept_from(map: &[u32], from: usize) -> bool {
-    let mut kept = true;
-    let mut i = from;
-    while i < map.len() {
-        kept = kept & (map[i] == 7);
-        i += 1;
-    }
-    kept
-}
-
-fn say_kept(map: &[u32], from: usize) {
-    if kept_from(map, from) {
-        say(b"map kept\n");
-        return;
-    }
-    say(b"map changed\n");
-}
-
-fn say_item(map: &[u32], first: usize) {
-    if map.len() < 4 {
-        return;
-    }
-    if map.len() - 4 < first {
-        return;
-    }
-    say(b" ");
-    say_word(map[first]);
-    say_word(map[first + 1]);
-    say_word(map[first + 2]);
-    say_word(map[first + 3]);
-    say(b"\n");
-}
-
-fn say_items(map: &[u32], items: u32) {
-    let mut i: u32 = 0;
-    while i < items {
-        say_item(map, 4 * (i as usize));
-        i += 1;
-    }
-}
-
 fn say_accepted(items: u32, count: u32, sent: bool) {
     say(b"accepted, items");
     say_word(items);
@@ -108,19 +59,19 @@ fn say_verdict(v: Verdict, map: &[u32]) {
     match v {
         Verdict::Accepted(items, count, sent) => {
             say_accepted(items, count, sent);
-            say_items(map, items);
-            say_kept(map, 4 * (items as usize));
+            map::say_items(map, items);
+            map::say_kept(map, 4 * (items as usize));
         }
         Verdict::Refused(x) => {
             say_refused(x);
-            say_kept(map, 0);
+            map::say_kept(map, 0);
         }
     }
 }
 
 // Reads an element into a map that is set to 7; what is then held.
 fn read_into(el: &[u8], held: Held, map: &mut [u32]) -> Held {
-    set_all(map);
+    map::set_all(map);
     let reply = element::read(el, held, map);
     let v = reply.verdict;
     say_verdict(v, map);

@@ -10,9 +10,10 @@ use borrow.Author.Tests.{lt-ltb, ltb-true}
 use Rattle.records.specs.declared.Record.{Record}
 use Rattle.records.specs.Blank.{noStream}
 use Rattle.records.specs.Table.{shareOf, streamsIn, tableOf}
-use Rattle.records.proofs.Tables.{cell-at, cell-there, cell-none}
+use Rattle.records.proofs.Tables.{cell-at, cell-there}
 use Rattle.row.specs.declared.Rowed.the-variants.{Is, Absent}
 use Rattle.row.specs.Row.{channelsOf, rowOf, numbered, rowIn}
+use Rattle.row.specs.Claims.{IsThere}
 
 pub few-channels : (c : ℕ) → c ≤ 6 → c ≡ channelsOf c
 few-channels zero h = refl
@@ -30,26 +31,36 @@ past-channels c h = sym (List·getD-eq-default (0 ∷ 1 ∷ 2 ∷ 3 ∷ 4 ∷ 5 
 -- ---- in the record's own table
 
 module _ (r : Record) (p l : ℕ) where
-  pub row-there : p < 16 → l < 8 → l < shareOf (r .layers) (r .programs) p → streamsIn (r .layers) (r .programs) p + l < 16
-      → rowIn r (tableOf (r .layers) (r .programs)) p l ≡ Is (rowOf p l (getD (r .streams) (streamsIn (r .layers) (r .programs) p + l) noStream))
-  row-there hp hl h k =
+  abbrev first : ℕ
+  first = streamsIn (r .layers) (r .programs) p
+
+  abbrev share : ℕ
+  share = shareOf (r .layers) (r .programs) p
+
+  pub row-there : IsThere r p l → rowIn r (tableOf (r .layers) (r .programs)) p l ≡ Is (rowOf p l (getD (r .streams) (first + l) noStream))
+  row-there h =
       rw (
-        lt-ltb p 16 hp,
-        lt-ltb l 8 hl,
-        cell-at (r .layers) (r .programs) p l 0 hp hl,
-        cell-there (streamsIn (r .layers) (r .programs) p) (shareOf (r .layers) (r .programs) p) l h k,
-        lt-ltb (streamsIn (r .layers) (r .programs) p + l) 16 k,
+        lt-ltb p 16 (h .0),
+        lt-ltb l 8 (h .1),
+        cell-at (r .layers) (r .programs) p l 0 (h .0) (h .1),
+        cell-there first share l (h .2) (h .3),
+        lt-ltb (first + l) 16 (h .3),
       )
 
-  absent : shareOf (r .layers) (r .programs) p ≤ l → (a b : Bool) → ltb p 16 ≡ a → ltb l 8 ≡ b
+  not-numbered : (a b : Bool) → (a ≡ true → b ≡ true → ⊥) → numbered r p l (cond a (cond b (first + l) 255) 255) ≡ Absent
+  not-numbered true true h = absurd (h refl refl)
+  not-numbered true false h = refl
+  not-numbered false b h = refl
+
+  absent : ¬ IsThere r p l → (a b : Bool) → ltb p 16 ≡ a → ltb l 8 ≡ b
       → cond a (cond b (numbered r p l (getD (getD (tableOf (r .layers) (r .programs)) p []) l 0)) Absent) Absent ≡ Absent
   absent h false b e q = refl
   absent h true false e q = refl
   absent h true true e q =
-      rw (
-        cell-at (r .layers) (r .programs) p l 0 (ltb-true p 16 e) (ltb-true l 8 q),
-        cell-none (streamsIn (r .layers) (r .programs) p) (shareOf (r .layers) (r .programs) p) l h,
-      )
+      let hp = ltb-true p 16 e in
+      let hl = ltb-true l 8 q in
+      rw (cell-at (r .layers) (r .programs) p l 0 hp hl)
+      (not-numbered (ltb l share) (ltb (first + l) 16) (λ c d. h (hp, hl, ltb-true l share c, ltb-true (first + l) 16 d)))
 
-  pub row-absent : shareOf (r .layers) (r .programs) p ≤ l → rowIn r (tableOf (r .layers) (r .programs)) p l ≡ Absent
+  pub row-absent : ¬ IsThere r p l → rowIn r (tableOf (r .layers) (r .programs)) p l ≡ Absent
   row-absent h = absent h (ltb p 16) (ltb l 8) refl refl

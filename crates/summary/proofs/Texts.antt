@@ -13,7 +13,7 @@ use Rattle.kernel.specs.Element.{Answer, accepted, rejected}
 use Rattle.element.specs.declared.Held.{Held}
 use Rattle.element.specs.declared.Reply.{Reply}
 use Rattle.element.specs.Mux.{Applied}
-use Rattle.element.specs.Reply.{verdictOf, heldAfter, tableThen, replyWith}
+use Rattle.element.specs.Reply.{verdictOf, heldAfter, tableAfter, replyWith}
 use Rattle.summary.specs.Summary.{foundText, layersText, programsText, acceptedText, shown, saidAfter}
 use Rattle.summary.specs.Replied.{acceptedBy, verdictText, verdictSaid}
 
@@ -35,7 +35,7 @@ sent-or-not element held table true r = refl
 sent-or-not element held table false r = refl
 
 shown-is : (element : ℕ) (held : Held) (said : Bool) (table : List (List ℕ)) (x : Answer Applied)
-    → verdictText element held said (verdictOf x) (heldAfter held x .config) (tableThen table x) ≡ shown element held said x
+    → verdictText element held said (verdictOf x) (heldAfter held x .config) (tableAfter table x) ≡ shown element held said x
 shown-is element held said table (accepted a its n) = sent-or-not element held table (a .sent) (a .config)
 shown-is element held said table (rejected r its) = refl
 
@@ -45,7 +45,7 @@ said-is said (rejected r its) = refl
 
 -- of what a reading left: its reply and the table
 module _ (held : Held) (said : Bool) (x : Answer Applied) {r : Reply} (e : r ≡ replyWith held x) where
-  pub shown-by : (element : ℕ) (table : List (List ℕ)) {then : List (List ℕ)} → then ≡ tableThen table x
+  pub shown-by : (element : ℕ) (table : List (List ℕ)) {then : List (List ℕ)} → then ≡ tableAfter table x
       → verdictText element held said (r .verdict) (r .held .config) then ≡ shown element held said x
   shown-by element table q = rw (e, q) (shown-is element held said table x)
 

@@ -7,7 +7,7 @@ use Rattle.kernel.specs.Reading.{field}
 use Rattle.kernel.proofs.Chain.{Comes, got, steady, took}
 use Rattle.element.specs.declared.Verdict.{Verdict}
 use Rattle.element.specs.Mux.{usable}
-use Rattle.element.specs.Reply.{mapAfter, tableThen, replyWith}
+use Rattle.element.specs.Reply.{mapAfter, tableAfter, replyWith}
 use Rattle.element.proofs.Whole.{behind-kept, behind-table-kept, flag-refused, flag-sent, flag-held, flag-short, flag-0, flag-1, flag-unheld, usable-few}
 use Rattle.kernel.specs.declared.Fetched.the-variants.{Refused as Short}
 use Rattle.kernel.specs.declared.Window.the-variants.{Open}
@@ -56,7 +56,7 @@ returns-2 c =
     let a = f .before .before .before .before .before .args in
     let q = flag-sent (a .el .now) (a .held) _ _ (took Open 1 (flag f) .moved) (flag-0 (usable (a .held)) (rw (t .if1 .taken) at (flag f))) in (
       w .with-sent .ensures .0 ∙ ap (replyWith (a .held)) (sym q),
-      (w .with-sent .ensures .1 .0 ∙ ap (mapAfter (a .map .now)) (sym q), w .with-sent .ensures .1 .1 ∙ ap (tableThen (a .table .now)) (sym q)),
+      (w .with-sent .ensures .1 .0 ∙ ap (mapAfter (a .map .now)) (sym q), w .with-sent .ensures .1 .1 ∙ ap (tableAfter (a .table .now)) (sym q)),
     )
 
 usable-held-requires : tie.Need-usable-held-requires
@@ -85,7 +85,7 @@ returns-3 c =
     let one : f .flag .given .0 .0 ≡ 1 = omega (arith, t .narrow) in
     let q = flag-held (a .el .now) (a .held) _ _ (t .moved) (flag-1 (usable (a .held)) (sym (u .usable-held .ensures) ∙ e .if2 .taken) (rw one at (flag f))) in (
       ap (λ (v : Verdict). record { verdict = v; held = a .held }) (b .behind .ensures .0) ∙ behind-kept (a .el .now) (a .held .config) _ _ (a .held) ∙ ap (replyWith (a .held)) (sym q),
-      (b .behind .ensures .1 ∙ ap (mapAfter (a .map .now)) (sym q), behind-table-kept (a .el .now) (a .held .config) _ _ (a .table .now) ∙ ap (tableThen (a .table .now)) (sym q)),
+      (b .behind .ensures .1 ∙ ap (mapAfter (a .map .now)) (sym q), behind-table-kept (a .el .now) (a .held .config) _ _ (a .table .now) ∙ ap (tableAfter (a .table .now)) (sym q)),
     )
 
 returns-4 : tie.Need-returns-4

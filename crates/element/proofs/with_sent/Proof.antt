@@ -8,7 +8,7 @@ use Rattle.config.specs.Mux.{streamMuxConfig}
 use Rattle.config.specs.Answer.{toldVerdict, whyVerdict}
 use Rattle.element.specs.declared.Held.{Held}
 use Rattle.element.specs.declared.Verdict.{Verdict}
-use Rattle.element.specs.Reply.{mapAfter, tableThen, replyWith}
+use Rattle.element.specs.Reply.{mapAfter, tableAfter, replyWith}
 use Rattle.element.specs.Parts.{replySent}
 use Rattle.element.proofs.Whole.{behind-sent, behind-table-sent, sent-done, sent-forward, sent-steady, sent-refused}
 use Rattle.element.proofs.with_sent.Statement.{statement}
@@ -70,7 +70,7 @@ returns-2 c =
     let filled = rw (f .v .given .1) at (g .stream-mux-config .ensures .1 .1 .0) in
     let q = sent-done (a .el .now) (a .c .at) (a .c .read) r _ _ (s .pre .1) e in (
       ap (λ (h : Held). record { verdict = b .behind .result; held = h }) (c .held-sent .ensures) ∙ ap (λ (v : Verdict). replySent v r (a .held)) (b .behind .ensures .0) ∙ behind-sent (a .el .now) r _ _ (a .held) ∙ ap (replyWith (a .held)) (sym q),
-      (b .behind .ensures .1 ∙ ap (mapAfter (a .map .now)) (sym q), t .keep-table .ensures ∙ behind-table-sent (a .el .now) r _ _ (a .table .now) (b .behind .ensures .0) filled ∙ ap (tableThen (a .table .now)) (sym q)),
+      (b .behind .ensures .1 ∙ ap (mapAfter (a .map .now)) (sym q), t .keep-table .ensures ∙ behind-table-sent (a .el .now) r _ _ (a .table .now) (b .behind .ensures .0) filled ∙ ap (tableAfter (a .table .now)) (sym q)),
     )
 
 pub with-sent-spec : {M : Type 1} → statement M

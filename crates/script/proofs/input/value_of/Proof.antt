@@ -1,9 +1,9 @@
--- `exercise::value_of` meets its contract.
+-- `script::value_of` meets its contract.
 use Prim.Native.Nat.{_≤_, _-_}
 use lib.ListN.{length}
 use borrow.Author.Needs.{needs}
-use Rattle.exercise.proofs.input.value_of.Statement.{statement}
-use Rattle.exercise.proofs.input.value_of.Tie as tie
+use Rattle.script.proofs.input.value_of.Statement.{statement}
+use Rattle.script.proofs.input.value_of.Tie as tie
 
 abbrev Inv-loop : tie.InvT-loop
 Inv-loop s v₀ i₀ v i = v ≤ 4294967295

@@ -1,10 +1,10 @@
--- `exercise::take_words` meets its contract.
+-- `script::take_words` meets its contract.
 use mathlib.Core.Path.{_≡_}
 use Prim.Native.Nat.{_-_}
 use lib.ListN.{length}
 use borrow.Author.Needs.{needs}
-use Rattle.exercise.proofs.input.take_words.Statement.{statement}
-use Rattle.exercise.proofs.input.take_words.Tie as tie
+use Rattle.script.proofs.input.take_words.Statement.{statement}
+use Rattle.script.proofs.input.take_words.Tie as tie
 
 abbrev Inv-loop : tie.InvT-loop
 Inv-loop words₀ count i₀ words i = length words ≡ length words₀

@@ -3,20 +3,23 @@ use mathlib.Core.Path.{_≡_}
 use Prim.Native.Nat.{_-_}
 use lib.ListN.{length}
 use borrow.Author.Needs.{needs}
-use Rattle.exercise.proofs.writing.set_all.Statement.{statement}
-use Rattle.exercise.proofs.writing.set_all.Tie as tie
+use Rattle.script.proofs.map.set_all.Statement.{statement}
+use Rattle.script.proofs.map.set_all.Tie as tie
 
 abbrev Inv-loop : tie.InvT-loop
-Inv-loop out₀ i₀ out i = length out ≡ length out₀
+Inv-loop map₀ i₀ map i = length map ≡ length map₀
 
 abbrev μ-loop : tie.MeasureT-loop
-μ-loop out₀ i₀ out i = length out₀ - i
+μ-loop map₀ i₀ map i = length map₀ - i
 
 loop-holds : tie.Need-loop-holds Inv-loop μ-loop
 loop-holds c = search needs
 
-slice-write-out : tie.Need-slice-write-out Inv-loop μ-loop
-slice-write-out c = search needs
+mul-map : tie.Need-mul-map Inv-loop μ-loop
+mul-map c = search needs
+
+slice-write-map : tie.Need-slice-write-map Inv-loop μ-loop
+slice-write-map c = search needs
 
 add-i : tie.Need-add-i Inv-loop μ-loop
 add-i c = search needs
@@ -40,7 +43,8 @@ set-all-spec =
     Inv-loop
     μ-loop
     loop-holds
-    slice-write-out
+    mul-map
+    slice-write-map
     add-i
     loop-less
     loop-again

@@ -1,9 +1,9 @@
--- `exercise::number` meets its contract.
+-- `script::number` meets its contract.
 use native.Mathlib.Omega.{arith}
 use lib.ListN.{length-take, length-append}
 use borrow.Author.Needs.{needs}
-use Rattle.exercise.proofs.input.number.Statement.{statement}
-use Rattle.exercise.proofs.input.number.Tie as tie
+use Rattle.script.proofs.input.number.Statement.{statement}
+use Rattle.script.proofs.input.number.Tie as tie
 
 returns : tie.Need-returns
 returns c = search needs

@@ -2,8 +2,8 @@
 use Prim.Native.Nat.{_-_}
 use lib.ListN.{length}
 use borrow.Author.Needs.{needs}
-use Rattle.exercise.proofs.writing.say_bytes.Statement.{statement}
-use Rattle.exercise.proofs.writing.say_bytes.Tie as tie
+use Rattle.script.proofs.output.say_bytes.Statement.{statement}
+use Rattle.script.proofs.output.say_bytes.Tie as tie
 
 abbrev Inv-loop : tie.InvT-loop
 Inv-loop out n i₀ t4 i = Unit {0}

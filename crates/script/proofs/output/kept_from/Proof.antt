@@ -2,8 +2,8 @@
 use Prim.Native.Nat.{_-_}
 use lib.ListN.{length}
 use borrow.Author.Needs.{needs}
-use Rattle.exercise.proofs.writing.kept_from.Statement.{statement}
-use Rattle.exercise.proofs.writing.kept_from.Tie as tie
+use Rattle.script.proofs.output.kept_from.Statement.{statement}
+use Rattle.script.proofs.output.kept_from.Tie as tie
 
 abbrev Inv-loop : tie.InvT-loop
 Inv-loop out from kept₀ i₀ kept i = Unit {0}

@@ -3,23 +3,20 @@ use mathlib.Core.Path.{_≡_}
 use Prim.Native.Nat.{_-_}
 use lib.ListN.{length}
 use borrow.Author.Needs.{needs}
-use Rattle.exercise.proofs.reading.set_all.Statement.{statement}
-use Rattle.exercise.proofs.reading.set_all.Tie as tie
+use Rattle.script.proofs.output.set_all.Statement.{statement}
+use Rattle.script.proofs.output.set_all.Tie as tie
 
 abbrev Inv-loop : tie.InvT-loop
-Inv-loop map₀ i₀ map i = length map ≡ length map₀
+Inv-loop out₀ i₀ out i = length out ≡ length out₀
 
 abbrev μ-loop : tie.MeasureT-loop
-μ-loop map₀ i₀ map i = length map₀ - i
+μ-loop out₀ i₀ out i = length out₀ - i
 
 loop-holds : tie.Need-loop-holds Inv-loop μ-loop
 loop-holds c = search needs
 
-mul-map : tie.Need-mul-map Inv-loop μ-loop
-mul-map c = search needs
-
-slice-write-map : tie.Need-slice-write-map Inv-loop μ-loop
-slice-write-map c = search needs
+slice-write-out : tie.Need-slice-write-out Inv-loop μ-loop
+slice-write-out c = search needs
 
 add-i : tie.Need-add-i Inv-loop μ-loop
 add-i c = search needs
@@ -43,8 +40,7 @@ set-all-spec =
     Inv-loop
     μ-loop
     loop-holds
-    mul-map
-    slice-write-map
+    slice-write-out
     add-i
     loop-less
     loop-again

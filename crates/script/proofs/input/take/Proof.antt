@@ -1,9 +1,9 @@
--- `exercise::take` meets its contract.
+-- `script::take` meets its contract.
 use native.Mathlib.Omega.{arith}
 use lib.ListN.{length-take}
 use borrow.Author.Needs.{needs}
-use Rattle.exercise.proofs.input.take.Statement.{statement}
-use Rattle.exercise.proofs.input.take.Tie as tie
+use Rattle.script.proofs.input.take.Statement.{statement}
+use Rattle.script.proofs.input.take.Tie as tie
 
 number-requires : tie.Need-number-requires
 number-requires c κs = search needs

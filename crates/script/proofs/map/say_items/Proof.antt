@@ -1,8 +1,8 @@
 -- `exercise::say_items` meets its contract.
 use Prim.Native.Nat.{_≤_, _-_}
 use borrow.Author.Needs.{needs}
-use Rattle.exercise.proofs.reading.say_items.Statement.{statement}
-use Rattle.exercise.proofs.reading.say_items.Tie as tie
+use Rattle.script.proofs.map.say_items.Statement.{statement}
+use Rattle.script.proofs.map.say_items.Tie as tie
 
 abbrev Inv-loop : tie.InvT-loop
 Inv-loop map items i₀ i = i ≤ items

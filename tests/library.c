@@ -1,0 +1,160 @@
+/* Calls every function of the library as a C caller does: document 01's worked elements, each function's refusals, words that are no
+ * record's, and that a refused call leaves what was lent as it stood. Expected values are 01's, or follow from it. */
+#include <stdio.h>
+#include <string.h>
+
+#include "schilfauge.h"
+
+enum { ROOM = 8300 };
+
+static const uint8_t capture[] = {0x56, 0xE0, 0x09, 0x20, 0x00, 0x11, 0x90, 0x1F, 0xE0, 0x15, 0x5E, 0x68, 0x56, 0xE0, 0x02, 0x80, 0x00};
+static const uint8_t *const first = capture + 3, *const second = capture + 15;
+static const uint8_t payload[] = {0xAB, 0xCD}, bytes[8192], none[1];
+
+static uint32_t held[SCHILF_HELD_WORDS], map[SCHILF_MAP_WORDS];
+static size_t answer[SCHILF_ANSWER_WORDS];
+static unsigned checks, failures;
+
+static void check(const char *what, bool holds)
+{
+    checks++;
+    if (!holds) {
+        failures++;
+        printf("library: wrong: %s\n", what);
+    }
+}
+
+static void hunts(void)
+{
+    size_t found[] = {7, 7};
+    check("hunt from 0", schilf_hunt(capture, 17, 0, found) == 0 && found[SCHILF_FOUND_PLACE] == 0 && found[SCHILF_FOUND_SIZE] == 9);
+    check("hunt from 1", schilf_hunt(capture, 17, 1, found) == 0 && found[SCHILF_FOUND_PLACE] == 12 && found[SCHILF_FOUND_SIZE] == 2);
+    check("hunt behind the last", schilf_hunt(capture, 17, 13, found) == 20 && found[0] == 12 && found[1] == 2);
+    check("hunt in no byte", schilf_hunt(none, 0, 0, found) == 20 && found[0] == 12 && found[1] == 2);
+}
+
+/* A read of `count` bytes with `words` held and room for `room` numbers: refused with this number, place and count, and held and map stay. */
+static void refused(const char *what, const uint8_t *element, size_t count, const uint32_t *words, size_t room, size_t number, size_t place,
+                    size_t fields)
+{
+    uint32_t kept[SCHILF_HELD_WORDS];
+    memcpy(kept, words, sizeof kept);
+    memset(map, 0x5A, sizeof map);
+    bool same = schilf_read(element, count, kept, map, room, answer) == number;
+    for (size_t i = 0; i < SCHILF_MAP_WORDS; i++)
+        same = same && map[i] == 0x5A5A5A5A;
+    check(what, same && memcmp(kept, words, sizeof kept) == 0 && answer[SCHILF_ANSWER_ITEMS] == 0 && answer[SCHILF_ANSWER_PLACE] == place &&
+                    answer[SCHILF_ANSWER_FIELDS] == fields && answer[SCHILF_ANSWER_SENT] == 0);
+}
+
+static void accepted(const char *what, const uint8_t *element, size_t count, const uint32_t *items, size_t number, size_t fields, size_t sent)
+{
+    memset(map, 0x5A, sizeof map);
+    check(what, schilf_read(element, count, held, map, SCHILF_MAP_WORDS, answer) == 0 && answer[SCHILF_ANSWER_ITEMS] == number &&
+                    answer[SCHILF_ANSWER_PLACE] == 0 && answer[SCHILF_ANSWER_FIELDS] == fields && answer[SCHILF_ANSWER_SENT] == sent &&
+                    memcmp(map, items, 16 * number) == 0 && map[4 * number] == 0x5A5A5A5A);
+}
+
+static void reads(void)
+{
+    static const uint32_t items[] = {1, 0, 0, 1, 2, 0, 1, 44, 3, 0, 45, 8, 4, 0, 53, 16, 6, 0, 69, 3};
+    static const uint32_t same[] = {1, 0, 0, 1, 3, 0, 1, 8, 4, 0, 9, 0, 6, 0, 9, 7};
+    uint32_t words[SCHILF_HELD_WORDS] = {0};
+    refused("4, nothing held", second, 2, words, SCHILF_MAP_WORDS, 4, 0, 1);
+    refused("1", first, 9, words, SCHILF_MAP_WORDS - 1, 1, 0, 0);
+    refused("2, no byte", none, 0, words, SCHILF_MAP_WORDS, 2, 0, 0);
+    refused("2, 8192 bytes", bytes, 8192, words, SCHILF_MAP_WORDS, 2, 0, 0);
+    accepted("the first element", first, 9, items, 5, 17, 1);
+
+    /* framing; core, index, channels, fullness; present */
+    words[3] = 1, words[22] = 2, words[24] = 3, words[25] = 2, words[34] = 255, words[250] = 1;
+    check("what is then held", memcmp(held, words, sizeof held) == 0);
+    accepted("the second element", second, 2, same, 4, 2, 0);
+    check("what is held stays", memcmp(held, words, sizeof held) == 0);
+    refused("3", second, 1, words, SCHILF_MAP_WORDS, 3, 1, 1);
+    refused("15", (const uint8_t[]){0x80, 0, 0}, 3, words, SCHILF_MAP_WORDS, 15, 16, 2);
+
+    words[250] = 2;
+    refused("4, the last word is not 1", second, 2, words, SCHILF_MAP_WORDS, 4, 0, 1);
+    words[250] = 1, words[29] = 6;
+    refused("4, a form of 6", second, 2, words, SCHILF_MAP_WORDS, 4, 0, 1);
+    words[29] = 0, words[3] = 0;
+    refused("4, a record that 16 refuses", second, 2, words, SCHILF_MAP_WORDS, 4, 0, 1);
+}
+
+static void rows(void)
+{
+    static const int64_t expected[] = {0, 0, 0, 2, 48000, 48000, -1, -1, 2}, absent[SCHILF_ROW_WORDS] = {SCHILF_NO_STREAM};
+    uint32_t words[SCHILF_HELD_WORDS];
+    int64_t row[SCHILF_ROW_WORDS] = {0};
+    check("the row", schilf_row(held, 0, 0, row) == 0 && memcmp(row, expected, sizeof row) == 0);
+    memcpy(words, held, sizeof words);
+    words[29] = 6;
+    check("16, a row of a form of 6", schilf_row(words, 0, 0, row) == 16 && memcmp(row, expected, sizeof row) == 0);
+    check("no such layer", schilf_row(held, 0, 1, row) == 0 && memcmp(row, absent, sizeof row) == 0);
+    check("no such program", schilf_row(held, UINT32_MAX, UINT32_MAX, row) == 0 && memcmp(row, absent, sizeof row) == 0);
+}
+
+/* The output, and whether only its first `count` bytes are other than before. */
+static uint8_t out[ROOM];
+
+static bool untouched(size_t count)
+{
+    for (size_t i = count; i < ROOM; i++)
+        if (out[i] != 0x5A)
+            return false;
+    return true;
+}
+
+static void unwritten(const char *what, const uint32_t *record, size_t lengths, size_t payloads, size_t other, size_t room, size_t number)
+{
+    static const uint32_t two[] = {2, 2};
+    size_t written = 7;
+    memset(out, 0x5A, ROOM);
+    check(what, schilf_write(record, true, two, lengths, payload, payloads, bytes, other, out, room, &written) == number && written == 7 && untouched(0));
+}
+
+static void writes(void)
+{
+    static const uint32_t two = 2, zero = 0;
+    uint32_t words[SCHILF_HELD_WORDS];
+    size_t written = 7;
+    memset(out, 0x5A, ROOM);
+    check("written with its record", schilf_write(held, true, &two, 1, payload, 2, none, 0, out, ROOM, &written) == 0 && written == 9 &&
+                                         memcmp(out, first, 9) == 0 && untouched(9));
+    memset(out, 0x5A, ROOM);
+    check("written without it", schilf_write(held, false, &zero, 1, none, 0, none, 0, out, 2, &written) == 0 && written == 2 &&
+                                    memcmp(out, second, 2) == 0 && untouched(2));
+    memcpy(words, held, sizeof words);
+    words[29] = 6;
+    unwritten("16, a form of 6", words, 1, 2, 0, ROOM, 16);
+    words[29] = 0, words[22] = 5;
+    unwritten("16, a core of type 5", words, 1, 2, 0, ROOM, 16);
+    unwritten("17, two lengths", held, 2, 2, 0, ROOM, 17);
+    unwritten("17, a byte of payload too few", held, 1, 1, 0, ROOM, 17);
+    unwritten("17, other data that is not present", held, 1, 2, 1, ROOM, 17);
+    words[22] = 2, words[246] = 1, words[247] = 65536;
+    unwritten("18, 8192 bytes of other data", words, 1, 2, 8192, ROOM, 18);
+    unwritten("19", held, 1, 2, 0, 8, 19);
+}
+
+static void frames(void)
+{
+    size_t written = 7;
+    memset(out, 0x5A, ROOM);
+    check("2, a frame of no byte", schilf_frame(none, 0, out, ROOM, &written) == 2 && written == 7 && untouched(0));
+    check("2, a frame of 8192 bytes", schilf_frame(bytes, 8192, out, ROOM, &written) == 2 && written == 7 && untouched(0));
+    check("19, a frame", schilf_frame(first, 9, out, 11, &written) == 19 && written == 7 && untouched(0));
+    check("a frame", schilf_frame(first, 9, out, 12, &written) == 0 && written == 12 && memcmp(out, capture, 12) == 0 && untouched(12));
+}
+
+int main(void)
+{
+    hunts();
+    reads();
+    rows();
+    writes();
+    frames();
+    printf("library: %u of %u as expected\n", checks - failures, checks);
+    return failures != 0;
+}
