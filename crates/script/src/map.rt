@@ -1,8 +1,13 @@
 // A map that is lent: set to 7 throughout, and then its items, and whether what stands behind them is as it was set.
+ghost use mathlib.Core.Path.{_≡_};
+ghost use lib.ListN.{length};
+ghost use Rattle.script.specs.Sevens.{sevens, sevensFrom};
 use crate::answers::say;
 use crate::answers::say_word;
 
-pub fn set_all(map: &mut [u32]) {
+pub fn set_all(map: &mut [u32])
+    ensures { λ _. ⌜ now (map .exit) ≡ sevens (length (now (map .entry))) ⌝ }
+{
     let mut i: usize = 0;
     while i < map.len() {
         map[i] = 7;
@@ -11,7 +16,9 @@ pub fn set_all(map: &mut [u32]) {
 }
 
 // Whether the numbers from a place on are as they were set.
-fn kept_from(map: &[u32], from: usize) -> bool {
+fn kept_from(map: &[u32], from: usize) -> bool
+    ensures { λ r. ⌜ r ≡ sevensFrom (now (map .entry)) from ⌝ }
+{
     let mut kept = true;
     let mut i = from;
     while i < map.len() {

@@ -1,10 +1,15 @@
 // Bytes that are lent to be written to: set to 7 throughout, and then what was written, and whether what stands behind it is as it was set.
+ghost use mathlib.Core.Path.{_≡_};
+ghost use lib.ListN.{length};
+ghost use Rattle.script.specs.Sevens.{sevens, sevensFrom};
 use crate::answers::say;
 use crate::answers::say_number;
 use crate::answers::say_refused;
 use kernel::Refusal;
 
-pub fn set_all(out: &mut [u8]) {
+pub fn set_all(out: &mut [u8])
+    ensures { λ _. ⌜ now (out .exit) ≡ sevens (length (now (out .entry))) ⌝ }
+{
     let mut i: usize = 0;
     while i < out.len() {
         out[i] = 7;
@@ -13,7 +18,9 @@ pub fn set_all(out: &mut [u8]) {
 }
 
 // Whether the bytes from a place on are as they were set.
-fn kept_from(out: &[u8], from: usize) -> bool {
+fn kept_from(out: &[u8], from: usize) -> bool
+    ensures { λ r. ⌜ r ≡ sevensFrom (now (out .entry)) from ⌝ }
+{
     let mut kept = true;
     let mut i = from;
     while i < out.len() {

@@ -1,4 +1,4 @@
--- `asc::bytes_from` meets its contract.
+-- `asc::numbers::bytes_from` meets its contract.
 use mathlib.Core.Path.{refl, ap, _≡_, _∙_}
 use Prim.Native.Nat.{_+_, _-_, _*_, _^_, _≤_, _<_}
 use native.Mathlib.Omega.{arith}

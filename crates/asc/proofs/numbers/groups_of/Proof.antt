@@ -1,4 +1,4 @@
--- `asc::groups_of` meets its contract.
+-- `asc::numbers::groups_of` meets its contract.
 use mathlib.Core.Path.{ap, _≡_, _∙_}
 use Prim.Native.Nat.{_+_, _-_, _*_, _^_, _≤_, _<_}
 use native.Mathlib.Omega.{arith}

@@ -1,4 +1,4 @@
--- `asc::latm_get_value` meets its contract.
+-- `asc::numbers::latm_get_value` meets its contract.
 use mathlib.Core.Path.{ap, _∙_}
 use native.Mathlib.Omega.{arith}
 use borrow.Author.Needs.{needs}

@@ -1,4 +1,4 @@
--- `asc::any_type` meets its contract.
+-- `asc::object_types::any_type` meets its contract.
 use mathlib.Core.Path.{ap, _∙_}
 use native.Mathlib.Omega.{arith}
 use borrow.Author.Needs.{needs}

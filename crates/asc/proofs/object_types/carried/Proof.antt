@@ -1,4 +1,4 @@
--- `asc::carried` meets its contract.
+-- `asc::object_types::carried` meets its contract.
 use borrow.Author.Needs.{needs}
 use Rattle.asc.proofs.object_types.carried.Statement.{statement}
 use Rattle.asc.proofs.object_types.carried.Tie as tie

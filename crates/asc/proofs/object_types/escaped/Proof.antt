@@ -1,4 +1,4 @@
--- `asc::escaped` meets its contract.
+-- `asc::object_types::escaped` meets its contract.
 use mathlib.Core.Path.{ap, _∙_}
 use native.Mathlib.Omega.{arith}
 use borrow.Author.Needs.{needs}

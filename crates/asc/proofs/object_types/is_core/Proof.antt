@@ -1,4 +1,4 @@
--- `asc::is_core` meets its contract.
+-- `asc::object_types::is_core` meets its contract.
 use Prim.Native.Nat.{ℕ, _≤_, _<_}
 use native.Mathlib.Omega.{arith}
 use borrow.Author.Tests.{le-leb, lt-leb}

@@ -1,4 +1,4 @@
--- `asc::is_front` meets its contract.
+-- `asc::object_types::is_front` meets its contract.
 use mathlib.Core.Path.{_≡_}
 use Prim.Native.Nat.{ℕ, _≤_, _<_}
 use native.Mathlib.Omega.{arith}

@@ -1,4 +1,4 @@
--- `asc::object_type` meets its contract.
+-- `asc::object_types::object_type` meets its contract.
 use mathlib.Core.Path.{ap, sym, _∙_}
 use native.Mathlib.Omega.{arith}
 use borrow.Author.Needs.{needs}

@@ -1,4 +1,4 @@
--- `asc::frequency_of` meets its contract.
+-- `asc::rates::frequency_of` meets its contract.
 use mathlib.Core.Path.{ap, _≡_, _∙_}
 use Prim.Native.Nat.{ℕ, _≤_, _<_}
 use native.Mathlib.Omega.{arith}

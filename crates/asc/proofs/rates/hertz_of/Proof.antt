@@ -1,4 +1,4 @@
--- `asc::hertz_of` meets its contract.
+-- `asc::rates::hertz_of` meets its contract.
 use mathlib.Core.Path.{ap, _∙_}
 use Prim.Native.Nat.{ℕ, _≤_, _<_}
 use native.Mathlib.Omega.{arith}

@@ -1,4 +1,4 @@
--- `asc::why_rated` meets its contract.
+-- `asc::rates::why_rated` meets its contract.
 use borrow.Author.Needs.{needs}
 use Rattle.asc.proofs.rates.why_rated.Statement.{statement}
 use Rattle.asc.proofs.rates.why_rated.Tie as tie

@@ -1,4 +1,4 @@
--- `asc::extension_type` meets its contract.
+-- `asc::signalling::extension_type` meets its contract.
 use mathlib.Core.Path.{ap, _≡_, _∙_}
 use Prim.Native.Nat.{ℕ}
 use native.Mathlib.Omega.{arith}

@@ -1,4 +1,4 @@
--- `asc::left_of` meets its contract.
+-- `asc::signalling::left_of` meets its contract.
 use mathlib.Core.Path.{_≡_}
 use Prim.Native.Nat.{_-_}
 use native.Mathlib.Omega.{arith}

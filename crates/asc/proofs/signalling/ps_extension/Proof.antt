@@ -1,4 +1,4 @@
--- `asc::ps_extension` meets its contract.
+-- `asc::signalling::ps_extension` meets its contract.
 use mathlib.Core.Path.{ap, _∙_}
 use native.Mathlib.Omega.{arith}
 use borrow.Author.Needs.{needs}

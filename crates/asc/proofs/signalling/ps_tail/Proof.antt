@@ -1,4 +1,4 @@
--- `asc::ps_tail` meets its contract.
+-- `asc::signalling::ps_tail` meets its contract.
 use Prim.Native.Nat.{_≤_, _<_}
 use borrow.Author.Needs.{needs}
 use borrow.Author.Tests.{le-leb, lt-leb}

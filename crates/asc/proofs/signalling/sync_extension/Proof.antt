@@ -1,4 +1,4 @@
--- `asc::sync_extension` meets its contract.
+-- `asc::signalling::sync_extension` meets its contract.
 use mathlib.Core.Path.{ap, _∙_}
 use native.Mathlib.Omega.{arith}
 use borrow.Author.Needs.{needs}

@@ -1,4 +1,4 @@
--- `asc::tail_of` meets its contract.
+-- `asc::signalling::tail_of` meets its contract.
 use Prim.Native.Nat.{_≤_, _<_}
 use borrow.Author.Needs.{needs}
 use borrow.Author.Tests.{le-leb, lt-leb}

@@ -1,4 +1,4 @@
--- `config::head_of` meets its contract.
+-- `config::head_fields::head_of` meets its contract.
 use mathlib.Core.Path.{ap, _∙_}
 use native.Mathlib.Omega.{arith}
 use denote.Ref.{now}

@@ -1,4 +1,4 @@
--- `config::tara_if` meets its contract.
+-- `config::head_fields::tara_if` meets its contract.
 use borrow.Author.Needs.{needs}
 use borrow.Author.Tests.{eq-eqb, ne-eqb}
 use Rattle.kernel.proofs.Chain.{met, so, gives, yes-way, no-way}

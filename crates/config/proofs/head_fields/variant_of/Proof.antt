@@ -1,4 +1,4 @@
--- `config::variant_of` meets its contract.
+-- `config::head_fields::variant_of` meets its contract.
 use mathlib.Core.Path.{ap, _∙_}
 use borrow.Author.Needs.{needs}
 use borrow.Author.Tests.{eq-eqb, ne-eqb}

@@ -1,4 +1,4 @@
--- `config::why_headed` meets its contract.
+-- `config::head_fields::why_headed` meets its contract.
 use borrow.Author.Needs.{needs}
 use Rattle.config.proofs.head_fields.why_headed.Statement.{statement}
 use Rattle.config.proofs.head_fields.why_headed.Tie as tie

@@ -1,4 +1,4 @@
--- `config::before_of` meets its contract.
+-- `config::layers::before_of` meets its contract.
 use mathlib.Core.Path.{_≡_}
 use Prim.Native.Nat.{_-_}
 use native.Mathlib.Omega.{arith}

@@ -1,4 +1,4 @@
--- `config::frame_length` meets its contract.
+-- `config::layers::frame_length` meets its contract.
 use mathlib.Core.Path.{ap, _≡_, _∙_}
 use Prim.Native.Nat.{ℕ}
 use native.Mathlib.Omega.{arith}

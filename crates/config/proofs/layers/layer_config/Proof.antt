@@ -1,4 +1,4 @@
--- `config::layer_config` meets its contract.
+-- `config::layers::layer_config` meets its contract.
 use borrow.Author.Needs.{needs}
 use borrow.Author.Tests.{eq-eqb, ne-eqb}
 use Rattle.kernel.proofs.Chain.{met, so, yes-way, no-way}

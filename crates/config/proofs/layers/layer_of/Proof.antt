@@ -1,4 +1,4 @@
--- `config::layer_of` meets its contract.
+-- `config::layers::layer_of` meets its contract.
 use mathlib.Core.Path.{ap, _∙_}
 use native.Mathlib.Omega.{arith}
 use borrow.Author.Needs.{needs}

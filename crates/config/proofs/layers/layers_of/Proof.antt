@@ -1,4 +1,4 @@
--- `config::layers_of` meets its contract.
+-- `config::layers::layers_of` meets its contract.
 use mathlib.Core.Path.{refl, ap, _≡_, _∙_}
 use Prim.Native.Nat.{_+_, _-_}
 use native.Mathlib.Omega.{arith}

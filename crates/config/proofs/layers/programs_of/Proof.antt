@@ -1,4 +1,4 @@
--- `config::programs_of` meets its contract.
+-- `config::layers::programs_of` meets its contract.
 use mathlib.Core.Path.{refl, ap, sym, _≡_, _∙_}
 use mathlib.Core.List.{_++_}
 use Prim.Native.Nat.{ℕ, _+_, _≤_, _<_}

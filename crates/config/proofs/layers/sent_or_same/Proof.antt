@@ -1,4 +1,4 @@
--- `config::sent_or_same` meets its contract.
+-- `config::layers::sent_or_same` meets its contract.
 use mathlib.Core.Path.{ap, _∙_}
 use native.Mathlib.Omega.{arith}
 use borrow.Author.Needs.{needs}

@@ -1,4 +1,4 @@
--- `config::why_configured` meets its contract.
+-- `config::layers::why_configured` meets its contract.
 use borrow.Author.Needs.{needs}
 use Rattle.config.proofs.layers.why_configured.Statement.{statement}
 use Rattle.config.proofs.layers.why_configured.Tie as tie

@@ -1,4 +1,4 @@
--- `config::why_skipped` meets its contract.
+-- `config::layers::why_skipped` meets its contract.
 use borrow.Author.Needs.{needs}
 use Rattle.config.proofs.layers.why_skipped.Statement.{statement}
 use Rattle.config.proofs.layers.why_skipped.Tie as tie

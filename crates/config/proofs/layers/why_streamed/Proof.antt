@@ -1,4 +1,4 @@
--- `config::why_streamed` meets its contract.
+-- `config::layers::why_streamed` meets its contract.
 use borrow.Author.Needs.{needs}
 use Rattle.config.proofs.layers.why_streamed.Statement.{statement}
 use Rattle.config.proofs.layers.why_streamed.Tie as tie

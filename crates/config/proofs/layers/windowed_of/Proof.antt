@@ -1,4 +1,4 @@
--- `config::windowed_of` meets its contract.
+-- `config::layers::windowed_of` meets its contract.
 use mathlib.Core.Path.{ap, _≡_, _∙_}
 use Prim.Native.Nat.{_+_, _-_}
 use native.Mathlib.Omega.{arith}

@@ -1,4 +1,4 @@
--- `config::crc_if` meets its contract.
+-- `config::tail_fields::crc_if` meets its contract.
 use borrow.Author.Needs.{needs}
 use borrow.Author.Tests.{eq-eqb, ne-eqb}
 use Rattle.kernel.proofs.Chain.{met, so, gives, yes-way, no-way}

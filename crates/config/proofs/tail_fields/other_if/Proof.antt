@@ -1,4 +1,4 @@
--- `config::other_if` meets its contract.
+-- `config::tail_fields::other_if` meets its contract.
 use borrow.Author.Needs.{needs}
 use borrow.Author.Tests.{eq-eqb, ne-eqb}
 use Rattle.kernel.proofs.Chain.{met, so, gives, yes-way, no-way}

@@ -1,4 +1,4 @@
--- `config::other_length` meets its contract.
+-- `config::tail_fields::other_length` meets its contract.
 use borrow.Author.Needs.{needs}
 use borrow.Author.Tests.{eq-eqb, ne-eqb}
 use Rattle.kernel.proofs.Chain.{met, so, yes-way, no-way}

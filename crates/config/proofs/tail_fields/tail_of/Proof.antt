@@ -1,4 +1,4 @@
--- `config::tail_of` meets its contract.
+-- `config::tail_fields::tail_of` meets its contract.
 use mathlib.Core.Path.{ap, _∙_}
 use native.Mathlib.Omega.{arith}
 use denote.Ref.{now}

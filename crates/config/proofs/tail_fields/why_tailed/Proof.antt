@@ -1,4 +1,4 @@
--- `config::why_tailed` meets its contract.
+-- `config::tail_fields::why_tailed` meets its contract.
 use borrow.Author.Needs.{needs}
 use Rattle.config.proofs.tail_fields.why_tailed.Statement.{statement}
 use Rattle.config.proofs.tail_fields.why_tailed.Tie as tie

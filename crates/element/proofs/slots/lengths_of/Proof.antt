@@ -1,4 +1,4 @@
--- `element::lengths_of` meets its contract.
+-- `element::slots::lengths_of` meets its contract.
 use mathlib.Core.Path.{refl, ap, sym, _≡_, _∙_}
 use mathlib.Core.List.{[]}
 use Prim.Native.Nat.{ℕ, _-_, _≤_}

@@ -1,4 +1,4 @@
--- `element::slot_bits` meets its contract.
+-- `element::slots::slot_bits` meets its contract.
 use mathlib.Core.Path.{ap, _∙_}
 use borrow.Author.Needs.{needs}
 use borrow.Author.Tests.{eq-eqb, ne-eqb}

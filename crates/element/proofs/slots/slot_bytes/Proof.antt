@@ -1,4 +1,4 @@
--- `element::slot_bytes` meets its contract.
+-- `element::slots::slot_bytes` meets its contract.
 use mathlib.Core.Path.{ap, _∙_}
 use Prim.Native.Nat.{_+_, _*_, _≤_}
 use native.Mathlib.Omega.{arith}

@@ -1,4 +1,4 @@
--- `element::why_spanned` meets its contract.
+-- `element::slots::why_spanned` meets its contract.
 use borrow.Author.Needs.{needs}
 use Rattle.element.proofs.slots.why_spanned.Statement.{statement}
 use Rattle.element.proofs.slots.why_spanned.Tie as tie

@@ -1,4 +1,4 @@
--- `element::alignment_of` meets its contract.
+-- `element::walk::alignment_of` meets its contract.
 use borrow.Author.Needs.{needs}
 use Rattle.element.specs.Mux.{byteAlignment}
 use Rattle.element.proofs.Goes.{goes-itself, goes-spot, forward}

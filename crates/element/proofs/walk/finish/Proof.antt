@@ -1,4 +1,4 @@
--- `element::finish` meets its contract.
+-- `element::walk::finish` meets its contract.
 use mathlib.Core.Path.{ap, sym, _≡_, _∙_}
 use mathlib.Core.List.{List}
 use Prim.Native.Nat.{ℕ, _*_, _≤_}

@@ -1,4 +1,4 @@
--- `element::other_of` meets its contract.
+-- `element::walk::other_of` meets its contract.
 use native.Mathlib.Omega.{arith}
 use borrow.Author.Needs.{needs}
 use Rattle.element.specs.Mux.{otherData}

@@ -1,4 +1,4 @@
--- `element::pass_item` meets its contract.
+-- `element::walk::pass_item` meets its contract.
 use native.Mathlib.Omega.{arith}
 use borrow.Author.Needs.{needs}
 use Rattle.element.proofs.Goes.{short-is, over-is}

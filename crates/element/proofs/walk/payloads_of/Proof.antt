@@ -1,4 +1,4 @@
--- `element::payloads_of` meets its contract.
+-- `element::walk::payloads_of` meets its contract.
 use mathlib.Core.Path.{refl, ap, _≡_, _∙_}
 use Prim.Native.Nat.{_+_, _-_, _≤_}
 use native.Mathlib.Omega.{arith}

@@ -1,4 +1,4 @@
--- `element::push_front` meets its contract.
+-- `element::walk::push_front` meets its contract.
 use borrow.Author.Needs.{needs}
 use Rattle.element.proofs.Ending.{front-stored}
 use Rattle.element.proofs.walk.push_front.Statement.{statement}

@@ -1,4 +1,4 @@
--- `element::push_if` meets its contract.
+-- `element::walk::push_if` meets its contract.
 use Prim.Native.Nat.{_*_}
 use native.Mathlib.Omega.{arith}
 use lib.ListN.{length-set}

@@ -1,4 +1,4 @@
--- `element::rest_of` meets its contract.
+-- `element::walk::rest_of` meets its contract.
 use mathlib.Core.Path.{ap, sym}
 use Prim.Native.Nat.{_+_}
 use native.Mathlib.Omega.{arith}

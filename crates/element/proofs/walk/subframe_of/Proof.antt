@@ -1,4 +1,4 @@
--- `element::subframe_of` meets its contract.
+-- `element::walk::subframe_of` meets its contract.
 use mathlib.Core.Path.{ap, sym, _∙_}
 use mathlib.Core.List.{[]}
 use Prim.Native.Nat.{_+_, _-_}

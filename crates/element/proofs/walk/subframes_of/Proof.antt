@@ -1,4 +1,4 @@
--- `element::subframes_of` meets its contract.
+-- `element::walk::subframes_of` meets its contract.
 use mathlib.Core.Path.{refl, ap, _≡_, _∙_}
 use Prim.Native.Nat.{_+_, _*_, _≤_}
 use native.Mathlib.Omega.{arith}

@@ -1,4 +1,4 @@
--- `element::why_measured` meets its contract.
+-- `element::walk::why_measured` meets its contract.
 use borrow.Author.Needs.{needs}
 use Rattle.element.proofs.walk.why_measured.Statement.{statement}
 use Rattle.element.proofs.walk.why_measured.Tie as tie

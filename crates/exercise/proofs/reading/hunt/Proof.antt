@@ -1,4 +1,4 @@
--- `exercise::hunt` meets its contract.
+-- `exercise::reading::hunt` meets its contract.
 use native.Mathlib.Omega.{arith}
 use lib.ListN.{length-take}
 use borrow.Author.Needs.{needs}

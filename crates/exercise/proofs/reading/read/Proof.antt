@@ -1,4 +1,4 @@
--- `exercise::read` meets its contract.
+-- `exercise::reading::read` meets its contract.
 use native.Mathlib.Omega.{arith}
 use lib.ListN.{length-take}
 use borrow.Author.Needs.{needs}

@@ -1,4 +1,4 @@
--- `exercise::rows` meets its contract.
+-- `exercise::reading::rows` meets its contract.
 use Prim.Native.Nat.{_≤_, _-_}
 use borrow.Author.Needs.{needs}
 use Rattle.exercise.proofs.reading.rows.Statement.{statement}

@@ -1,4 +1,4 @@
--- `exercise::frame` meets its contract.
+-- `exercise::writing::frame` meets its contract.
 use native.Mathlib.Omega.{arith}
 use lib.ListN.{length-take}
 use borrow.Author.Needs.{needs}

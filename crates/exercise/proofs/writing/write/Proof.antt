@@ -1,4 +1,4 @@
--- `exercise::write` meets its contract.
+-- `exercise::writing::write` meets its contract.
 use native.Mathlib.Omega.{arith}
 use lib.ListN.{length-take}
 use borrow.Author.Needs.{needs}

@@ -1,4 +1,4 @@
--- `record_words::form_words` meets its contract.
+-- `record_words::lay::form_words` meets its contract.
 use borrow.Author.Needs.{needs}
 use Rattle.record_words.proofs.lay.form_words.Statement.{statement}
 use Rattle.record_words.proofs.lay.form_words.Tie as tie

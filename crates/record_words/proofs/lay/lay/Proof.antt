@@ -1,4 +1,4 @@
--- `record_words::lay` meets its contract.
+-- `record_words::lay::lay` meets its contract.
 use mathlib.Core.Path.{_≡_, refl}
 use Prim.Native.Nat.{_≤_, _-_}
 use native.Mathlib.Omega.{arith}

@@ -1,4 +1,4 @@
--- `record_words::lay_all` meets its contract.
+-- `record_words::lay::lay_all` meets its contract.
 use native.Mathlib.Omega.{arith}
 use Rattle.kernel.proofs.Lists.{stored-then}
 use borrow.Author.Needs.{needs}

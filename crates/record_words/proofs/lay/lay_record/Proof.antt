@@ -1,4 +1,4 @@
--- `record_words::lay_record` meets its contract.
+-- `record_words::lay::lay_record` meets its contract.
 use Rattle.record_words.proofs.Words.{laid-none, laid-all}
 use borrow.Author.Tests.{le-leb, lt-leb}
 use mathlib.Core.Path.{sym}

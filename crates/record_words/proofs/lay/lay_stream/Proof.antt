@@ -1,4 +1,4 @@
--- `record_words::lay_stream` meets its contract.
+-- `record_words::lay::lay_stream` meets its contract.
 use borrow.Author.Needs.{needs}
 use Rattle.record_words.proofs.lay.lay_stream.Statement.{statement}
 use Rattle.record_words.proofs.lay.lay_stream.Tie as tie

@@ -1,4 +1,4 @@
--- `record_words::lay_streams` meets its contract.
+-- `record_words::lay::lay_streams` meets its contract.
 use Rattle.record_words.proofs.Words.{streams-turn, streams-done}
 use Rattle.record_words.specs.Words.{streamsWords}
 use Rattle.kernel.proofs.Lists.{ToStore, store-all, store-on, stored-none}

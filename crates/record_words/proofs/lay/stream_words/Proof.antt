@@ -1,4 +1,4 @@
--- `record_words::stream_words` meets its contract.
+-- `record_words::lay::stream_words` meets its contract.
 use borrow.Author.Needs.{needs}
 use Rattle.record_words.proofs.lay.stream_words.Statement.{statement}
 use Rattle.record_words.proofs.lay.stream_words.Tie as tie

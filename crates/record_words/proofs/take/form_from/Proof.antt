@@ -1,4 +1,4 @@
--- `record_words::form_from` meets its contract.
+-- `record_words::take::form_from` meets its contract.
 use mathlib.Core.Path.{_≡_}
 use native.Mathlib.Omega.{arith}
 use borrow.Author.Tests.{ne-eqb}

@@ -1,4 +1,4 @@
--- `record_words::freq_from` meets its contract.
+-- `record_words::take::freq_from` meets its contract.
 use borrow.Author.Tests.{eq-eqb, ne-eqb}
 use Rattle.record_words.proofs.take.freq_from.Statement.{statement}
 use Rattle.record_words.proofs.take.freq_from.Tie as tie

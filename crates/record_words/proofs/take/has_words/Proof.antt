@@ -1,4 +1,4 @@
--- `record_words::has_words` meets its contract.
+-- `record_words::take::has_words` meets its contract.
 use Rattle.record_words.proofs.Words.{laid-new}
 use Rattle.record_words.specs.Words.{sameWords}
 use mathlib.Core.Path.{_∙_, ap}

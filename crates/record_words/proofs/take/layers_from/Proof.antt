@@ -1,4 +1,4 @@
--- `record_words::layers_from` meets its contract.
+-- `record_words::take::layers_from` meets its contract.
 use mathlib.Core.Path.{_≡_, refl}
 use mathlib.Core.List.{_++_}
 use Prim.Native.Nat.{_≤_, _-_, _+_}

@@ -1,4 +1,4 @@
--- `record_words::record_from` meets its contract.
+-- `record_words::take::record_from` meets its contract.
 use borrow.Author.Needs.{needs}
 use Rattle.record_words.proofs.take.record_from.Statement.{statement}
 use Rattle.record_words.proofs.take.record_from.Tie as tie

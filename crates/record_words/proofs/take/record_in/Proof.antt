@@ -1,4 +1,4 @@
--- `record_words::record_in` meets its contract.
+-- `record_words::take::record_in` meets its contract.
 use Rattle.record_words.proofs.Words.{is-record, is-none, too-few}
 use mathlib.Core.Path.{sym, _∙_}
 use borrow.Author.Needs.{needs}

@@ -1,4 +1,4 @@
--- `record_words::same_words` meets its contract.
+-- `record_words::take::same_words` meets its contract.
 use Rattle.record_words.specs.Words.{sameWords}
 use mathlib.Core.Path.{_≡_, refl}
 use Prim.Native.Nat.{_≤_, _-_}

@@ -1,4 +1,4 @@
--- `record_words::stream_from` meets its contract.
+-- `record_words::take::stream_from` meets its contract.
 use borrow.Author.Needs.{needs}
 use Rattle.record_words.proofs.take.stream_from.Statement.{statement}
 use Rattle.record_words.proofs.take.stream_from.Tie as tie

@@ -1,4 +1,4 @@
--- `record_words::streams_from` meets its contract.
+-- `record_words::take::streams_from` meets its contract.
 use Rattle.record_words.proofs.Words.{stream-from}
 use Rattle.records.specs.Blank.{noStream}
 use Rattle.record_words.specs.Words.{streamFrom}

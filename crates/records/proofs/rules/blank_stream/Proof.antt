@@ -1,4 +1,4 @@
--- `records::blank_stream` meets its contract.
+-- `records::rules::blank_stream` meets its contract.
 use borrow.Author.Needs.{needs}
 use Rattle.records.proofs.rules.blank_stream.Statement.{statement}
 use Rattle.records.proofs.rules.blank_stream.Tie as tie

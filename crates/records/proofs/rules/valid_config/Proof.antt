@@ -1,4 +1,4 @@
--- `records::valid_config` meets its contract.
+-- `records::rules::valid_config` meets its contract.
 use borrow.Author.Needs.{needs}
 use Rattle.records.proofs.rules.valid_config.Statement.{statement}
 use Rattle.records.proofs.rules.valid_config.Tie as tie

@@ -1,4 +1,4 @@
--- `records::same_config` meets its contract.
+-- `records::same::same_config` meets its contract.
 use borrow.Author.Needs.{needs}
 use Rattle.records.proofs.same.same_config.Statement.{statement}
 use Rattle.records.proofs.same.same_config.Tie as tie

@@ -1,4 +1,4 @@
--- `script::number` meets its contract.
+-- `script::input::number` meets its contract.
 use native.Mathlib.Omega.{arith}
 use lib.ListN.{length-take, length-append}
 use borrow.Author.Needs.{needs}

@@ -1,4 +1,4 @@
--- `script::take` meets its contract.
+-- `script::input::take` meets its contract.
 use native.Mathlib.Omega.{arith}
 use lib.ListN.{length-take}
 use borrow.Author.Needs.{needs}

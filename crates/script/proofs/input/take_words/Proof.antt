@@ -1,4 +1,4 @@
--- `script::take_words` meets its contract.
+-- `script::input::take_words` meets its contract.
 use mathlib.Core.Path.{_≡_}
 use Prim.Native.Nat.{_-_}
 use lib.ListN.{length}

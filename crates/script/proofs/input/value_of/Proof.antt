@@ -1,4 +1,4 @@
--- `script::value_of` meets its contract.
+-- `script::input::value_of` meets its contract.
 use Prim.Native.Nat.{_≤_, _-_}
 use lib.ListN.{length}
 use borrow.Author.Needs.{needs}

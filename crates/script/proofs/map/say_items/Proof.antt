@@ -1,4 +1,4 @@
--- `exercise::say_items` meets its contract.
+-- `script::map::say_items` meets its contract.
 use Prim.Native.Nat.{_≤_, _-_}
 use borrow.Author.Needs.{needs}
 use Rattle.script.proofs.map.say_items.Statement.{statement}

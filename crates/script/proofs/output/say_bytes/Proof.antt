@@ -1,4 +1,4 @@
--- `exercise::say_bytes` meets its contract.
+-- `script::output::say_bytes` meets its contract.
 use Prim.Native.Nat.{_-_}
 use lib.ListN.{length}
 use borrow.Author.Needs.{needs}

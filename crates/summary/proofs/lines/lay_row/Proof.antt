@@ -1,4 +1,4 @@
--- `summary::lay_row` meets its contract.
+-- `summary::lines::lay_row` meets its contract.
 use borrow.Author.Needs.{needs}
 use mathlib.Core.Path.{_≡_}
 use mir.Syntax.{w32}

@@ -1,4 +1,4 @@
--- `summary::lay_signal` meets its contract.
+-- `summary::lines::lay_signal` meets its contract.
 use borrow.Author.Needs.{needs}
 use mir.Syntax.{w32}
 use mir.Val.{toZ, ofZ}

@@ -1,4 +1,4 @@
--- `writer::measure_all` meets its contract.
+-- `writer::measures::measure_all` meets its contract.
 use native.Mathlib.Omega.{arith}
 use mathlib.Core.Path.{_≡_, sym, _∙_, ap}
 use mathlib.Core.Bool.{_&&_}

@@ -1,4 +1,4 @@
--- `writer::measure_row` meets its contract.
+-- `writer::measures::measure_row` meets its contract.
 use native.Mathlib.Omega.{arith}
 use Prim.Native.Nat.{_<_}
 use mathlib.Core.Path.{_≡_, sym, _∙_}

@@ -1,4 +1,4 @@
--- `writer::other_bytes` meets its contract.
+-- `writer::measures::other_bytes` meets its contract.
 use borrow.Author.Tests.{eq-eqb, ne-eqb}
 use borrow.Author.Needs.{needs}
 use Rattle.writer.proofs.measures.other_bytes.Statement.{statement}

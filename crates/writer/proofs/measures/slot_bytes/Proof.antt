@@ -1,4 +1,4 @@
--- `writer::slot_bytes` meets its contract.
+-- `writer::measures::slot_bytes` meets its contract.
 use native.Mathlib.Omega.{arith}
 use borrow.Author.Tests.{eq-eqb, ne-eqb}
 use borrow.Author.Needs.{needs}

@@ -1,0 +1,2 @@
+-- Laws that the proofs of several functions share.
+pub mod Sevens

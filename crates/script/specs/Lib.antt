@@ -1,0 +1,2 @@
+-- What is set before a call.
+pub mod Sevens
