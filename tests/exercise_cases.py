@@ -4,8 +4,8 @@
     (cd tests/second && cargo build --offline --release)
     python3 tests/exercise_cases.py tests/second/target/release/second
 
-First come elements that are laid out here field by field. Nothing here reads an element: the place, width and count of each item are known
-because it was laid out here, and the second program must answer the same. Then come cases that the second program makes from fixed seeds, with
+First come elements that are laid out here field by field, or copied from document 01 with its answers, and hunts. Nothing here reads an
+element: the place, width and count of each item are known because it was laid out here, and the second program must answer the same. Then come cases that the second program makes from fixed seeds, with
 its answers.
 """
 import pathlib
@@ -59,6 +59,20 @@ def sent(layers, slots, subframes, **more):
     return sent_element(record(layers, slots, len(subframes), **more), subframes)
 
 
+def no_room(*parts, size=0):
+    """With a configuration held: length bytes (a list) and payloads (so many bytes), and at least `size` bytes in all, in which what comes
+    next has no room."""
+    e = Element()
+    e.flag(1)
+    for part in parts:
+        if isinstance(part, list):
+            for byte in part:
+                e.part("length byte", 8, byte)
+        else:
+            e.part("payload", 8 * part, 0)
+    case(e.data().ljust(size, b"\0"), refused(3, e.at(), e.count))
+
+
 def seventeen():
     """Three programs of 8, 8 and 1 layers: the third numLayer is one stream too many, and zeros follow it."""
     e = Element()
@@ -91,6 +105,40 @@ good(held(ONE, [255]), False)
 good(held(ONE, [256]), False)
 good(held(ONE, [510]), False)
 case(held(ONE, [255]).data()[:257], refused(3, 17, 3))
+
+# the longest slot that 8,191 bytes hold, and slots of 8,159 and 8,160 bytes
+fullest = held(ONE, [8158])
+assert len(fullest.data()) == 8191
+good(fullest, False)
+no_room([255] * 31 + [254], size=8191)
+no_room([255] * 32 + [0], size=8191)
+
+# runs of 255: the byte behind the run is missing; it is there, and the payload is not, or not whole
+for run in (34, 256, 8190):
+    no_room([255] * run)
+for run in (34, 256, 8189):
+    no_room([255] * run + [0])
+    no_room([255] * run + [254], size=8191)
+
+# slots of 65,536 bits and of 65,536 bytes
+no_room([255] * 32 + [32])
+no_room([255] * 257 + [1])
+
+# two streams: the run is the second's, the first's, and both have one
+good(sent([1, 1], [None, None], [[3, 255]]), True)
+for run in (34, 256, 8189):
+    no_room([3] + [255] * run)
+    no_room([255] * run + [0])
+for run in (34, 256):
+    no_room([3] + [255] * run + [0], 3)
+    no_room([255] * run + [0] + [255] * run + [254], size=8191)
+
+# the run of the second of two streams, the first having a fixed slot, in the second of two subframes
+good(sent([1, 1], [0, None], [[0, 255], [0, 1]]), True)
+for run in (34, 256):
+    no_room([2], 20, 2, [255] * run)
+    no_room([2], 20, 2, [255] * run + [0])
+    no_room([2], 20, 2, [255] * run + [0], 20)
 
 # two programs, one of fixed slots, with other data and a checksum
 good(sent([1, 1], [None, 0], [[3, 0]], other=12, crc=77), True)

@@ -1,5 +1,5 @@
-/* Calls every function of the library as a C caller does: document 01's worked elements, each function's refusals, words that are no
- * record's, and that a refused call leaves what was lent as it stood. Expected values are 01's, or follow from it. */
+/* Calls every function of the library as a C caller does: document 01's worked elements, refusals (of a reading 1 to 4 and 15), words that
+ * are no record's, and that a refused call leaves what was lent as it stood, save a reading's answer. Expected values are 01's, or follow from it. */
 #include <stdio.h>
 #include <string.h>
 
