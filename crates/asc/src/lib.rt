@@ -9,8 +9,9 @@ pub use numbers::groups_of;
 pub use numbers::latm_get_value;
 pub use signalling::left_of;
 ghost use mathlib.Core.Path.{_≡_};
-ghost use Rattle.kernel.specs.Reading.{run, Sound};
-ghost use Rattle.kernel.specs.Answer.{told, toldFetched};
+ghost use Rattle.kernel.specs.Reading.{Sound};
+ghost use Rattle.kernel.specs.Answer.{toldFetched};
+ghost use Rattle.kernel.specs.Promises.{Tells};
 ghost use Rattle.asc.specs.Asc.{channelConfiguration, unset, inFront, gaSpecificConfig, alone, underFront, audioSpecificConfig};
 ghost use Rattle.asc.specs.Answer.{toldFlagged, toldConfigured, whyFlagged, whyFormed};
 use bits::take_at;
@@ -57,7 +58,7 @@ pub enum Configured {
 
 fn channels_of(el: &[u8], win: Window, c: Cursor) -> Fetched
     requires { ⌜ Sound (now el) (c .at) (c .read) ⌝ }
-    ensures { λ r. ⌜ toldFetched r ≡ told (run (now (el .entry)) (channelConfiguration win) (c .at) (c .read)) ⌝ }
+    ensures { λ r. ⌜ Tells toldFetched (now (el .entry)) (channelConfiguration win) (c .at) (c .read) r ⌝ }
 {
     let place = c.at;
     let four = take_at(el, win, c, 4);
@@ -77,7 +78,7 @@ fn channels_of(el: &[u8], win: Window, c: Cursor) -> Fetched
 // A flag that must be 0.
 fn unset_of(el: &[u8], win: Window, c: Cursor) -> Fetched
     requires { ⌜ Sound (now el) (c .at) (c .read) ⌝ }
-    ensures { λ r. ⌜ toldFetched r ≡ told (run (now (el .entry)) (unset win) (c .at) (c .read)) ⌝ }
+    ensures { λ r. ⌜ Tells toldFetched (now (el .entry)) (unset win) (c .at) (c .read) r ⌝ }
 {
     let place = c.at;
     let one = take_at(el, win, c, 1);
@@ -96,7 +97,7 @@ fn unset_of(el: &[u8], win: Window, c: Cursor) -> Fetched
 
 fn flags_of(el: &[u8], win: Window, c: Cursor) -> Flagged
     requires { ⌜ Sound (now el) (c .at) (c .read) ⌝ }
-    ensures { λ r. ⌜ toldFlagged r ≡ told (run (now (el .entry)) (gaSpecificConfig win) (c .at) (c .read)) ⌝ }
+    ensures { λ r. ⌜ Tells toldFlagged (now (el .entry)) (gaSpecificConfig win) (c .at) (c .read) r ⌝ }
 {
     let a = take_at(el, win, c, 1);
     let Fetched::Value(frame, c1) = a else {
@@ -149,7 +150,7 @@ fn why_formed(f: Formed) -> Refusal
 // A core type alone.
 fn alone_of(el: &[u8], win: Window, c: Cursor, t: u32, f: Freq, channels: u32) -> Configured
     requires { ⌜ Sound (now el) (c .at) (c .read) ⌝ }
-    ensures { λ r. ⌜ toldConfigured r ≡ told (run (now (el .entry)) (alone t f channels win) (c .at) (c .read)) ⌝ }
+    ensures { λ r. ⌜ Tells toldConfigured (now (el .entry)) (alone t f channels win) (c .at) (c .read) r ⌝ }
 {
     let flags = flags_of(el, win, c);
     let Flagged::Value(g, c1) = flags else {
@@ -185,7 +186,7 @@ fn in_front(t: u32, x: Freq) -> Form
 // A core under type 5 or 29.
 fn under_front(el: &[u8], win: Window, c: Cursor, t: u32, f: Freq, channels: u32) -> Configured
     requires { ⌜ Sound (now el) (c .at) (c .read) ⌝ }
-    ensures { λ r. ⌜ toldConfigured r ≡ told (run (now (el .entry)) (underFront t f channels win) (c .at) (c .read)) ⌝ }
+    ensures { λ r. ⌜ Tells toldConfigured (now (el .entry)) (underFront t f channels win) (c .at) (c .read) r ⌝ }
 {
     let freq = frequency_of(el, win, c);
     let Rated::Value(x, c1) = freq else {
@@ -216,7 +217,7 @@ fn under_front(el: &[u8], win: Window, c: Cursor, t: u32, f: Freq, channels: u32
 
 pub fn audio_specific_config(el: &[u8], win: Window, c: Cursor) -> Configured
     requires { ⌜ Sound (now el) (c .at) (c .read) ⌝ }
-    ensures { λ r. ⌜ toldConfigured r ≡ told (run (now (el .entry)) (audioSpecificConfig win) (c .at) (c .read)) ⌝ }
+    ensures { λ r. ⌜ Tells toldConfigured (now (el .entry)) (audioSpecificConfig win) (c .at) (c .read) r ⌝ }
 {
     let number = object_type(el, win, c, false);
     let Fetched::Value(t, c1) = number else {

@@ -1,8 +1,8 @@
 // Numbers of several bytes: a variable value, and groups of a continue bit and a byte.
-ghost use mathlib.Core.Path.{_≡_};
 ghost use Prim.Native.Nat.{_≤_};
-ghost use Rattle.kernel.specs.Reading.{run, Sound};
-ghost use Rattle.kernel.specs.Answer.{told, toldFetched};
+ghost use Rattle.kernel.specs.Reading.{Sound};
+ghost use Rattle.kernel.specs.Answer.{toldFetched};
+ghost use Rattle.kernel.specs.Promises.{Tells};
 ghost use Rattle.asc.specs.Values.{bytesFrom, latmGetValue, groupsFrom};
 use kernel::Cursor;
 use kernel::Fetched;
@@ -12,7 +12,7 @@ use kernel::fetch;
 
 fn bytes_from(el: &[u8], c: Cursor, n: u32) -> Fetched
     requires { ⌜ (n ≤ 4) × Sound (now el) (c .at) (c .read) ⌝ }
-    ensures { λ r. ⌜ toldFetched r ≡ told (run (now (el .entry)) (bytesFrom n 0) (c .at) (c .read)) ⌝ }
+    ensures { λ r. ⌜ Tells toldFetched (now (el .entry)) (bytesFrom n 0) (c .at) (c .read) r ⌝ }
 {
     let mut cur = c;
     let mut v: u32 = 0;
@@ -31,7 +31,7 @@ fn bytes_from(el: &[u8], c: Cursor, n: u32) -> Fetched
 
 pub fn latm_get_value(el: &[u8], c: Cursor) -> Fetched
     requires { ⌜ Sound (now el) (c .at) (c .read) ⌝ }
-    ensures { λ r. ⌜ toldFetched r ≡ told (run (now (el .entry)) latmGetValue (c .at) (c .read)) ⌝ }
+    ensures { λ r. ⌜ Tells toldFetched (now (el .entry)) latmGetValue (c .at) (c .read) r ⌝ }
 {
     let two = fetch(el, Window::Open, c, 2);
     let Fetched::Value(k, c1) = two else {
@@ -43,7 +43,7 @@ pub fn latm_get_value(el: &[u8], c: Cursor) -> Fetched
 // The length of other data in version 0: a continue bit and a byte, in at most four groups.
 pub fn groups_of(el: &[u8], c: Cursor) -> Fetched
     requires { ⌜ Sound (now el) (c .at) (c .read) ⌝ }
-    ensures { λ r. ⌜ toldFetched r ≡ told (run (now (el .entry)) (groupsFrom 4 0) (c .at) (c .read)) ⌝ }
+    ensures { λ r. ⌜ Tells toldFetched (now (el .entry)) (groupsFrom 4 0) (c .at) (c .read) r ⌝ }
 {
     let mut cur = c;
     let mut v: u32 = 0;

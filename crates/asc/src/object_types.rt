@@ -1,8 +1,9 @@
 // Object types: which are carried, and where.
 ghost use mathlib.Core.Path.{_≡_};
 ghost use Prim.Native.Nat.{_≤_};
-ghost use Rattle.kernel.specs.Reading.{refuseAfter, run, Sound};
-ghost use Rattle.kernel.specs.Answer.{told, toldFetched};
+ghost use Rattle.kernel.specs.Reading.{refuseAfter, Sound};
+ghost use Rattle.kernel.specs.Answer.{toldFetched};
+ghost use Rattle.kernel.specs.Promises.{Tells};
 ghost use Rattle.asc.specs.Asc.{isCore, isFront, objectType, anyType};
 ghost use Rattle.asc.specs.Answer.{carriedIf};
 use bits::take_at;
@@ -41,7 +42,7 @@ fn carried(under: bool, t: u32) -> bool
 // The six more bits of a five-bit type 31, for which no type is carried.
 fn escaped(el: &[u8], win: Window, c: Cursor) -> Fetched
     requires { ⌜ (5 ≤ c .at) × Sound (now el) (c .at) (c .read) ⌝ }
-    ensures { λ r. ⌜ toldFetched r ≡ told (run (now (el .entry)) (refuseAfter win 6 8 5) (c .at) (c .read)) ⌝ }
+    ensures { λ r. ⌜ Tells toldFetched (now (el .entry)) (refuseAfter win 6 8 5) (c .at) (c .read) r ⌝ }
 {
     let place = c.at - 5;
     let six = take_at(el, win, c, 6);
@@ -57,7 +58,7 @@ fn escaped(el: &[u8], win: Window, c: Cursor) -> Fetched
 
 pub fn object_type(el: &[u8], win: Window, c: Cursor, under: bool) -> Fetched
     requires { ⌜ Sound (now el) (c .at) (c .read) ⌝ }
-    ensures { λ r. ⌜ toldFetched r ≡ told (run (now (el .entry)) (objectType (carriedIf under) win) (c .at) (c .read)) ⌝ }
+    ensures { λ r. ⌜ Tells toldFetched (now (el .entry)) (objectType (carriedIf under) win) (c .at) (c .read) r ⌝ }
 {
     let place = c.at;
     let five = take_at(el, win, c, 5);
@@ -79,7 +80,7 @@ pub fn object_type(el: &[u8], win: Window, c: Cursor, under: bool) -> Fetched
 
 pub fn any_type(el: &[u8], win: Window, c: Cursor) -> Fetched
     requires { ⌜ Sound (now el) (c .at) (c .read) ⌝ }
-    ensures { λ r. ⌜ toldFetched r ≡ told (run (now (el .entry)) (anyType win) (c .at) (c .read)) ⌝ }
+    ensures { λ r. ⌜ Tells toldFetched (now (el .entry)) (anyType win) (c .at) (c .read) r ⌝ }
 {
     let five = take_at(el, win, c, 5);
     let Fetched::Value(t, c1) = five else {

@@ -1,7 +1,7 @@
 // Frequencies, by index or in 24 bits.
 ghost use mathlib.Core.Path.{_≡_};
-ghost use Rattle.kernel.specs.Reading.{run, Sound};
-ghost use Rattle.kernel.specs.Answer.{told};
+ghost use Rattle.kernel.specs.Reading.{Sound};
+ghost use Rattle.kernel.specs.Promises.{Tells};
 ghost use Rattle.asc.specs.Asc.{hertz, frequency};
 ghost use Rattle.asc.specs.Answer.{toldRated, whyRated};
 use crate::Rated;
@@ -28,7 +28,7 @@ pub fn why_rated(f: Rated) -> Refusal
 
 fn hertz_of(el: &[u8], win: Window, c: Cursor) -> Rated
     requires { ⌜ Sound (now el) (c .at) (c .read) ⌝ }
-    ensures { λ r. ⌜ toldRated r ≡ told (run (now (el .entry)) (hertz win) (c .at) (c .read)) ⌝ }
+    ensures { λ r. ⌜ Tells toldRated (now (el .entry)) (hertz win) (c .at) (c .read) r ⌝ }
 {
     let place = c.at;
     let hz = take_at(el, win, c, 24);
@@ -47,7 +47,7 @@ fn hertz_of(el: &[u8], win: Window, c: Cursor) -> Rated
 
 pub fn frequency_of(el: &[u8], win: Window, c: Cursor) -> Rated
     requires { ⌜ Sound (now el) (c .at) (c .read) ⌝ }
-    ensures { λ r. ⌜ toldRated r ≡ told (run (now (el .entry)) (frequency win) (c .at) (c .read)) ⌝ }
+    ensures { λ r. ⌜ Tells toldRated (now (el .entry)) (frequency win) (c .at) (c .read) r ⌝ }
 {
     let place = c.at;
     let four = take_at(el, win, c, 4);

@@ -1,7 +1,7 @@
 // What stands behind 0x2B7: SBR and PS, signalled by flags.
 ghost use mathlib.Core.Path.{_≡_};
-ghost use Rattle.kernel.specs.Reading.{run, Sound};
-ghost use Rattle.kernel.specs.Answer.{told};
+ghost use Rattle.kernel.specs.Reading.{Sound};
+ghost use Rattle.kernel.specs.Promises.{Tells};
 ghost use Rattle.asc.specs.Asc.{left, psExtension, psTail, sbrExtension, extensionType, syncExtension, tail};
 ghost use Rattle.asc.specs.Answer.{toldFormed};
 use crate::Formed;
@@ -36,7 +36,7 @@ pub fn left_of(win: Window, at: usize) -> usize
 // psPresentFlag after 0x548.
 fn ps_extension(el: &[u8], win: Window, c: Cursor, x: Freq) -> Formed
     requires { ⌜ Sound (now el) (c .at) (c .read) ⌝ }
-    ensures { λ r. ⌜ toldFormed r ≡ told (run (now (el .entry)) (psExtension x win) (c .at) (c .read)) ⌝ }
+    ensures { λ r. ⌜ Tells toldFormed (now (el .entry)) (psExtension x win) (c .at) (c .read) r ⌝ }
 {
     let sync = take_at(el, win, c, 11);
     let Fetched::Value(s, c1) = sync else {
@@ -54,7 +54,7 @@ fn ps_extension(el: &[u8], win: Window, c: Cursor, x: Freq) -> Formed
 
 fn ps_tail(el: &[u8], win: Window, c: Cursor, x: Freq) -> Formed
     requires { ⌜ Sound (now el) (c .at) (c .read) ⌝ }
-    ensures { λ r. ⌜ toldFormed r ≡ told (run (now (el .entry)) (psTail x win) (c .at) (c .read)) ⌝ }
+    ensures { λ r. ⌜ Tells toldFormed (now (el .entry)) (psTail x win) (c .at) (c .read) r ⌝ }
 {
     if 12 <= left_of(win, c.at) {
         return ps_extension(el, win, c, x);
@@ -64,7 +64,7 @@ fn ps_tail(el: &[u8], win: Window, c: Cursor, x: Freq) -> Formed
 
 fn sbr_extension(el: &[u8], win: Window, c: Cursor) -> Formed
     requires { ⌜ Sound (now el) (c .at) (c .read) ⌝ }
-    ensures { λ r. ⌜ toldFormed r ≡ told (run (now (el .entry)) (sbrExtension win) (c .at) (c .read)) ⌝ }
+    ensures { λ r. ⌜ Tells toldFormed (now (el .entry)) (sbrExtension win) (c .at) (c .read) r ⌝ }
 {
     let flag = take_at(el, win, c, 1);
     let Fetched::Value(f, c1) = flag else {
@@ -83,7 +83,7 @@ fn sbr_extension(el: &[u8], win: Window, c: Cursor) -> Formed
 // The type after 0x2B7: 5 goes on, 22 is refused, and any other says nothing.
 fn extension_type(el: &[u8], win: Window, c: Cursor) -> Formed
     requires { ⌜ Sound (now el) (c .at) (c .read) ⌝ }
-    ensures { λ r. ⌜ toldFormed r ≡ told (run (now (el .entry)) (extensionType win) (c .at) (c .read)) ⌝ }
+    ensures { λ r. ⌜ Tells toldFormed (now (el .entry)) (extensionType win) (c .at) (c .read) r ⌝ }
 {
     let place = c.at;
     let number = any_type(el, win, c);
@@ -103,7 +103,7 @@ fn extension_type(el: &[u8], win: Window, c: Cursor) -> Formed
 
 fn sync_extension(el: &[u8], win: Window, c: Cursor) -> Formed
     requires { ⌜ Sound (now el) (c .at) (c .read) ⌝ }
-    ensures { λ r. ⌜ toldFormed r ≡ told (run (now (el .entry)) (syncExtension win) (c .at) (c .read)) ⌝ }
+    ensures { λ r. ⌜ Tells toldFormed (now (el .entry)) (syncExtension win) (c .at) (c .read) r ⌝ }
 {
     let sync = take_at(el, win, c, 11);
     let Fetched::Value(s, c1) = sync else {
@@ -117,7 +117,7 @@ fn sync_extension(el: &[u8], win: Window, c: Cursor) -> Formed
 
 pub fn tail_of(el: &[u8], win: Window, c: Cursor) -> Formed
     requires { ⌜ Sound (now el) (c .at) (c .read) ⌝ }
-    ensures { λ r. ⌜ toldFormed r ≡ told (run (now (el .entry)) (tail win) (c .at) (c .read)) ⌝ }
+    ensures { λ r. ⌜ Tells toldFormed (now (el .entry)) (tail win) (c .at) (c .read) r ⌝ }
 {
     if 16 <= left_of(win, c.at) {
         return sync_extension(el, win, c);

@@ -1,18 +1,18 @@
 -- What is written of a record reads back: StreamMuxConfig.
-use mathlib.Core.Path.{_≡_, refl, sym, ap, subst, _∙_}
+use mathlib.Core.Path.{_≡_, refl, ap, subst, _∙_}
 use mathlib.Core.Bool.{Bool, true, false, cond}
-use mathlib.Core.List.{List, []}
-use Prim.Native.Nat.{ℕ, zero, suc, _+_, _-_, _^_, _<_, _≤_}
-use native.Mathlib.Nat.{add-zero, add-suc, sub-self}
-use native.Mathlib.Numerals.{add-one}
+use mathlib.Core.List.{List, [], _++_}
+use Prim.Native.Nat.{ℕ, zero, suc, _+_, _-_, _*_, _^_, _<_, _≤_}
+use native.Mathlib.Nat.{add-zero, sub-self}
 use native.Mathlib.Omega.{arith}
 use lib.Dec.{eqb}
-use lib.ListN.{length, getD}
-use borrow.Author.Tests.{le-leb, lt-leb, eq-eqb, eqb-true, eqb-false}
+use lib.ListN.{length, getD, length-append}
+use borrow.Author.Tests.{le-leb, eq-eqb, eqb-true, eqb-false}
 use Rattle.kernel.specs.declared.Window.the-variants.{Open, UpTo}
-use Rattle.kernel.specs.Bits.{bitsOf}
-use Rattle.kernel.specs.Reading.{give, pass, here, choose, _>>=_, _>>_}
-use Rattle.kernel.specs.Trip.{Reads}
+use Rattle.kernel.specs.Bits.{bitsOf, Holds}
+use Rattle.kernel.specs.Reading.{give, pass, here, choose, _>>=_, _>>_, run}
+use Rattle.kernel.specs.Trip.{Gives, Reads}
+use Rattle.kernel.proofs.Held.{holds-left, holds-right}
 use Rattle.kernel.proofs.Tests.{both}
 use Rattle.kernel.proofs.Trip.{reads-give, reads-here, reads-field, reads-pass, reads-bind, reads-on, reads-then, reads-window, reads-yes, reads-no, reads-need, reads-both, reads-last, reads-maybe}
 use Rattle.records.specs.declared.Config.{Config}
@@ -27,10 +27,9 @@ use Rattle.config.specs.declared.Tail.{Tail}
 use Rattle.config.specs.declared.Places.{Places}
 use Rattle.asc.specs.Values.{latmGetValue, valueBits, groupsFrom, groupBits}
 use Rattle.asc.specs.Asc.{audioSpecificConfig, ascBits}
-use Rattle.config.specs.Mux.{windowed, configuration, configBits, frameLength, frameLengthBits, sentOrSame, layer, layerBits, configAt}
-use Rattle.config.specs.Mux.{layers, layersBits, programs, programsBits}
-use Rattle.config.specs.Mux.{variantA, muxHead, muxHeadBits, otherLength, muxTail, muxTailBits, noPlaces, streamMuxConfig, muxBits}
+use Rattle.config.specs.Mux.{windowed, configuration, configBits, frameLength, frameLengthBits, sentOrSame, layer, layerBits, configAt, layers, layersBits, programs, programsBits, variantA, muxHead, muxHeadBits, otherLength, muxTail, muxTailBits, noPlaces, streamMuxConfig, muxBits}
 use Rattle.records.proofs.Apart.{SlotOk, of-type-0, of-type-1, slot-ok, RecordOk, record-ok}
+use Rattle.records.proofs.Tables.{streams-next, streams-upto, streams-end}
 use Rattle.records.proofs.Theorems.{same-means-equal}
 use Rattle.config.proofs.Begun.{begun, begun-more, begun-last, begun-all}
 use Rattle.asc.proofs.TripValues.{value-trip, groups-trip}
@@ -48,6 +47,18 @@ pub windowed-trip : (c : Config) (at : ℕ) → validConfig 1 c ≡ true → Rea
 unfolding windowed configBits
 windowed-trip c at v =
     reads-bind _ (value-trip at (length (ascBits c)) (omega (arith, asc-short c))) (reads-here _ (rest-trip c (at + length (valueBits (length (ascBits c)))) v))
+
+-- which leaves no bit of the window
+pub no-fill-trip : (c : Config) (s : List ℕ) (at n : ℕ) → validConfig 1 c ≡ true → Holds s at (configBits 1 c) → at + length (configBits 1 c) ≤ 8 * length s
+    → let len = length (ascBits c) in let p = at + length (valueBits len) in
+    Gives (run s latmGetValue at n) len p × Gives (run s (audioSpecificConfig (UpTo (p + len))) p n) c (p + len)
+unfolding configBits
+no-fill-trip c s at n v h l =
+    let len = length (ascBits c) in
+    let k : at + length (valueBits len ++ ascBits c) ≡ at + length (valueBits len) + len = simp length-append (omega arith) in (
+      value-trip at len (omega (arith, asc-short c)) .gives s n (holds-left s at (valueBits len) (ascBits c) h) (omega (arith, k)) tt,
+      window-trip c (at + length (valueBits len)) v .gives s n (holds-right s at (valueBits len) (ascBits c) h) (omega (arith, k)) (omega arith),
+    )
 
 bare-trip : (c : Config) (at : ℕ) → validConfig 0 c ≡ true → Reads Open at (audioSpecificConfig Open) (configBits 0 c) c
 unfolding configBits
@@ -113,26 +124,6 @@ layers-trip version (suc n) next ss at l len few v =
 
 -- ---- the programs
 
-pub in-more : (ks : List ℕ) (n p : ℕ) → p ≤ n → streamsIn ks n p + (getD ks p 0 + 1) ≡ streamsIn ks n (p + 1)
-unfolding streamsIn
-in-more ks n p h = rw (add-one p, le-leb p n h)
-
-in-less : (ks : List ℕ) (n p k : ℕ) → streamsIn ks n p ≤ streamsIn ks n (p + k)
-unfolding streamsIn
-in-less ks n p zero = rw add-zero (omega arith)
-in-less ks n p (suc k) = rw add-suc (omega (arith, in-less ks n p k))
-
-pub in-upto : (ks : List ℕ) (n p q : ℕ) → p ≤ q → streamsIn ks n p ≤ streamsIn ks n q
-in-upto ks n p q h = let e : p + (q - p) ≡ q = omega arith in rw e at (in-less ks n p (q - p))
-
-in-past : (ks : List ℕ) (n k : ℕ) → streamsIn ks n (n + 1 + k) ≡ streamsIn ks n (n + 1)
-unfolding streamsIn
-in-past ks n zero = rw add-zero
-in-past ks n (suc k) = rw (add-suc, lt-leb (n + 1 + k) n (omega arith), add-zero) (in-past ks n k)
-
-in-all : (ks : List ℕ) (n : ℕ) → n ≤ 15 → streamsIn ks n (n + 1) ≡ streamsIn ks n 16
-in-all ks n h = let e : n + 1 + (15 - n) ≡ 16 = omega arith in sym (rw e at (in-past ks n (15 - n)))
-
 module _ (version last : ℕ) (ks : List ℕ) (ss : List Stream) (l : version ≤ 1) (kl : length ks ≡ 16) (sl : length ss ≡ 16) (few : last ≤ 15)
     (small : (p : ℕ) → p ≤ last → getD ks p 0 ≤ 7) (count : streamsIn ks last 16 ≤ 16)
     (valid : (i : ℕ) → i < streamsIn ks last 16 → validStream version (getD ss i noStream) ≡ true) where
@@ -145,8 +136,8 @@ module _ (version last : ℕ) (ks : List ℕ) (ss : List Stream) (l : version �
   programs-trip zero p at e = let q : last + 1 ≡ p = omega arith in rw q reads-give
   programs-trip (suc n) p at e =
       let k = getD ks p 0 in
-      let more : streamsIn ks last p + (k + 1) ≡ streamsIn ks last (p + 1) = in-more ks last p (omega arith) in
-      let all : streamsIn ks last (p + 1) ≤ streamsIn ks last 16 = in-upto ks last (p + 1) 16 (omega arith) in
+      let more : streamsIn ks last p + (k + 1) ≡ streamsIn ks last (p + 1) = streams-next ks last p (omega arith) in
+      let all : streamsIn ks last (p + 1) ≤ streamsIn ks last 16 = streams-upto ks last (p + 1) 16 (omega arith) in
       reads-on 3 k _ (omega (arith, small p (omega arith))) (reads-need 7 3 (le-leb (streamsIn ks last p + (k + 1)) 16 (omega arith))
       (reads-bind _ (layers-trip version (k + 1) (streamsIn ks last p) ss (at + 3) l sl (omega arith) (λ i h. valid i (omega arith)))
       (rw (more, begun-more 0 p ks (omega arith) kl) (programs-trip n (p + 1) _ (omega arith)))))
@@ -198,7 +189,7 @@ places-trip r at kl sl h =
     let n = r .programs in
     let ks : begun 0 (n + 1) (r .layers) ≡ r .layers = begun-all 0 (n + 1) (r .layers) kl (λ i k. h .no-layers i (omega arith)) in
     let ss : begun noStream (streamsIn (r .layers) n (n + 1)) (r .streams) ≡ r .streams =
-    rw (in-all (r .layers) n (h .programs)) (begun-all noStream (streamsIn (r .layers) n 16) (r .streams) sl (h .no-streams)) in
+    rw (← streams-end (r .layers) n (h .programs)) (begun-all noStream (streamsIn (r .layers) n 16) (r .streams) sl (h .no-streams)) in
     subst (λ (g : Places). Reads Open at (programs (r .version) (n + 1) 0 0 noPlaces) (programsBits (r .version) (n + 1) 0 0 (r .layers) (r .streams)) g)
     (λ i. record { layers = ks i; streams = ss i })
     (programs-trip (r .version) n (r .layers) (r .streams) (h .version) kl sl (h .programs) (h .layers) (h .count) (h .streams) (n + 1) 0 at (omega arith))

@@ -19,9 +19,7 @@ use Rattle.config.specs.declared.Tailed.the-variants as tailed
 use Rattle.config.specs.declared.Places.{Places}
 use Rattle.config.specs.declared.Verdict.{Verdict}
 use Rattle.config.specs.declared.Verdict.the-variants.{Done, Refused}
-use Rattle.config.specs.declared.Filled.{Filled}
 use Rattle.config.specs.declared.Placed.{Placed}
-use Rattle.config.specs.declared.Mux.{Mux}
 
 abbrev pub whyConfigured : Configured → Refusal
 whyConfigured (configured.Value v c) = nothing
@@ -74,22 +72,13 @@ abbrev pub IfRefused : Verdict → Type 0 → Type 0
 IfRefused (Done c) X = Unit {0}
 IfRefused (Refused x) X = X
 
--- the table lent, afterwards
-abbrev pub tableAfter : Verdict → List (List ℕ) → Record → List (List ℕ)
-tableAfter (Done c) table r = tableOf (r .layers) (r .programs)
-tableAfter (Refused x) table r = table
-
-abbrev pub toldFilled : Filled → Told (List Stream)
-toldFilled r = toldVerdict (r .streams) (r .verdict)
+-- the table lent, afterwards: that of the programs 0 to n, or as it stood
+abbrev pub tableAfter : Verdict → List (List ℕ) → List ℕ → ℕ → List (List ℕ)
+tableAfter (Done c) table layers n = tableOf layers n
+tableAfter (Refused x) table layers n = table
 
 abbrev pub placesOf : Placed → Places
 placesOf r = record { layers = r .layers; streams = r .streams }
-
-abbrev pub toldPlaced : Placed → Told Places
-toldPlaced r = toldVerdict (placesOf r) (r .verdict)
-
-abbrev pub toldMux : Mux → Told Record
-toldMux r = toldVerdict (r .held) (r .verdict)
 
 -- at most 64 subframes and 16 streams
 abbrev pub Few : Record → Type 0

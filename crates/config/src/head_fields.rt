@@ -1,8 +1,9 @@
 // The values in front of the programs.
 ghost use mathlib.Core.Path.{_≡_};
 ghost use lib.Dec.{eqb};
-ghost use Rattle.kernel.specs.Reading.{choose, give, run, Sound};
-ghost use Rattle.kernel.specs.Answer.{told, toldFetched};
+ghost use Rattle.kernel.specs.Reading.{choose, give, Sound};
+ghost use Rattle.kernel.specs.Answer.{toldFetched};
+ghost use Rattle.kernel.specs.Promises.{Tells};
 ghost use Rattle.asc.specs.Values.{latmGetValue};
 ghost use Rattle.config.specs.Mux.{variantA, muxHead};
 ghost use Rattle.config.specs.Answer.{toldHeaded, whyHeaded, FewPrograms};
@@ -18,7 +19,7 @@ use kernel::why;
 
 fn variant_of(el: &[u8], c: Cursor) -> Fetched
     requires { ⌜ Sound (now el) (c .at) (c .read) ⌝ }
-    ensures { λ r. ⌜ toldFetched r ≡ told (run (now (el .entry)) variantA (c .at) (c .read)) ⌝ }
+    ensures { λ r. ⌜ Tells toldFetched (now (el .entry)) variantA (c .at) (c .read) r ⌝ }
 {
     let place = c.at;
     let one = fetch(el, Window::Open, c, 1);
@@ -37,7 +38,7 @@ fn variant_of(el: &[u8], c: Cursor) -> Fetched
 
 fn variant_if(el: &[u8], version: u32, c: Cursor) -> Fetched
     requires { ⌜ Sound (now el) (c .at) (c .read) ⌝ }
-    ensures { λ r. ⌜ toldFetched r ≡ told (run (now (el .entry)) (choose (eqb version 1) variantA (give 0)) (c .at) (c .read)) ⌝ }
+    ensures { λ r. ⌜ Tells toldFetched (now (el .entry)) (choose (eqb version 1) variantA (give 0)) (c .at) (c .read) r ⌝ }
 {
     if version == 1 {
         return variant_of(el, c);
@@ -47,7 +48,7 @@ fn variant_if(el: &[u8], version: u32, c: Cursor) -> Fetched
 
 fn tara_if(el: &[u8], version: u32, c: Cursor) -> Fetched
     requires { ⌜ Sound (now el) (c .at) (c .read) ⌝ }
-    ensures { λ r. ⌜ toldFetched r ≡ told (run (now (el .entry)) (choose (eqb version 1) latmGetValue (give 0)) (c .at) (c .read)) ⌝ }
+    ensures { λ r. ⌜ Tells toldFetched (now (el .entry)) (choose (eqb version 1) latmGetValue (give 0)) (c .at) (c .read) r ⌝ }
 {
     if version == 1 {
         return latm_get_value(el, c);
@@ -57,7 +58,7 @@ fn tara_if(el: &[u8], version: u32, c: Cursor) -> Fetched
 
 pub fn head_of(el: &[u8], c: Cursor) -> Headed
     requires { ⌜ Sound (now el) (c .at) (c .read) ⌝ }
-    ensures told { λ r. ⌜ toldHeaded r ≡ told (run (now (el .entry)) muxHead (c .at) (c .read)) ⌝ }
+    ensures told { λ r. ⌜ Tells toldHeaded (now (el .entry)) muxHead (c .at) (c .read) r ⌝ }
     ensures few { λ r. ⌜ FewPrograms r ⌝ }
 {
     let a = fetch(el, Window::Open, c, 1);

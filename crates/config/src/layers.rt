@@ -2,12 +2,15 @@
 ghost use mathlib.Core.Path.{_≡_};
 ghost use Prim.Native.Nat.{_+_, _-_, _≤_};
 ghost use lib.Dec.{eqb};
-ghost use Rattle.kernel.specs.Reading.{choose, run, Sound};
-ghost use Rattle.kernel.specs.Answer.{told, whySkipped};
+ghost use Rattle.kernel.specs.Reading.{choose, Sound};
+ghost use Rattle.kernel.specs.Answer.{whySkipped};
+ghost use Rattle.kernel.specs.Promises.{Tells};
 ghost use Rattle.asc.specs.Answer.{toldConfigured};
-ghost use Rattle.records.specs.Table.{streamsIn, tableOf};
-ghost use Rattle.config.specs.Mux.{windowed, configuration, frameLength, sentOrSame, layer, layers, programs, configAt, noPlaces};
-ghost use Rattle.config.specs.Answer.{toldStreamed, toldFilled, toldPlaced, whyConfigured, whyStreamed, IfDone};
+ghost use Rattle.records.specs.Table.{streamsIn};
+ghost use Rattle.config.specs.Mux.{windowed, configuration, frameLength, sentOrSame, layer, configAt, noPlaces};
+ghost use Rattle.config.specs.declared.Verdict.the-variants.{Refused};
+ghost use Rattle.config.specs.Answer.{toldStreamed, whyConfigured, whyStreamed, placesOf, IfDone};
+ghost use Rattle.config.specs.Promises.{LayersPromise, ProgramsPromise};
 use crate::Filled;
 use crate::Placed;
 use crate::Streamed;
@@ -71,7 +74,7 @@ fn why_skipped(f: Skipped) -> Refusal
 
 fn windowed_of(el: &[u8], c: Cursor) -> Configured
     requires { ⌜ Sound (now el) (c .at) (c .read) ⌝ }
-    ensures { λ r. ⌜ toldConfigured r ≡ told (run (now (el .entry)) windowed (c .at) (c .read)) ⌝ }
+    ensures { λ r. ⌜ Tells toldConfigured (now (el .entry)) windowed (c .at) (c .read) r ⌝ }
 {
     let length = latm_get_value(el, c);
     let Fetched::Value(n, c1) = length else {
@@ -91,7 +94,7 @@ fn windowed_of(el: &[u8], c: Cursor) -> Configured
 
 fn configuration_of(el: &[u8], version: u32, c: Cursor) -> Configured
     requires { ⌜ Sound (now el) (c .at) (c .read) ⌝ }
-    ensures { λ r. ⌜ toldConfigured r ≡ told (run (now (el .entry)) (configuration version) (c .at) (c .read)) ⌝ }
+    ensures { λ r. ⌜ Tells toldConfigured (now (el .entry)) (configuration version) (c .at) (c .read) r ⌝ }
 {
     if version == 1 {
         return windowed_of(el, c);
@@ -101,7 +104,7 @@ fn configuration_of(el: &[u8], version: u32, c: Cursor) -> Configured
 
 fn frame_length(el: &[u8], c: Cursor, config: Config) -> Streamed
     requires { ⌜ Sound (now el) (c .at) (c .read) ⌝ }
-    ensures { λ r. ⌜ toldStreamed r ≡ told (run (now (el .entry)) (frameLength config) (c .at) (c .read)) ⌝ }
+    ensures { λ r. ⌜ Tells toldStreamed (now (el .entry)) (frameLength config) (c .at) (c .read) r ⌝ }
 {
     let place = c.at;
     let three = fetch(el, Window::Open, c, 3);
@@ -149,7 +152,7 @@ fn frame_length(el: &[u8], c: Cursor, config: Config) -> Streamed
 
 fn sent_or_same(el: &[u8], version: u32, before: Config, c: Cursor) -> Configured
     requires { ⌜ Sound (now el) (c .at) (c .read) ⌝ }
-    ensures { λ r. ⌜ toldConfigured r ≡ told (run (now (el .entry)) (sentOrSame version before) (c .at) (c .read)) ⌝ }
+    ensures { λ r. ⌜ Tells toldConfigured (now (el .entry)) (sentOrSame version before) (c .at) (c .read) r ⌝ }
 {
     let one = fetch(el, Window::Open, c, 1);
     let Fetched::Value(same, c1) = one else {
@@ -164,7 +167,7 @@ fn sent_or_same(el: &[u8], version: u32, before: Config, c: Cursor) -> Configure
 // Stream 0 sends its configuration without a useSameConfig.
 fn layer_config(el: &[u8], version: u32, next: usize, before: Config, c: Cursor) -> Configured
     requires { ⌜ Sound (now el) (c .at) (c .read) ⌝ }
-    ensures { λ r. ⌜ toldConfigured r ≡ told (run (now (el .entry)) (choose (eqb next 0) (configuration version) (sentOrSame version before)) (c .at) (c .read)) ⌝ }
+    ensures { λ r. ⌜ Tells toldConfigured (now (el .entry)) (choose (eqb next 0) (configuration version) (sentOrSame version before)) (c .at) (c .read) r ⌝ }
 {
     if next == 0 {
         return configuration_of(el, version, c);
@@ -174,7 +177,7 @@ fn layer_config(el: &[u8], version: u32, next: usize, before: Config, c: Cursor)
 
 fn layer_of(el: &[u8], version: u32, next: usize, before: Config, c: Cursor) -> Streamed
     requires { ⌜ Sound (now el) (c .at) (c .read) ⌝ }
-    ensures { λ r. ⌜ toldStreamed r ≡ told (run (now (el .entry)) (layer version next before) (c .at) (c .read)) ⌝ }
+    ensures { λ r. ⌜ Tells toldStreamed (now (el .entry)) (layer version next before) (c .at) (c .read) r ⌝ }
 {
     let config = layer_config(el, version, next, before, c);
     let Configured::Value(v, c1) = config else {
@@ -197,6 +200,7 @@ fn before_of(streams: [Stream; 16], next: usize) -> Config
     s.config
 }
 
+// A refusal gives the streams back as they were.
 fn layers_of(
     el: &[u8],
     version: u32,
@@ -206,7 +210,7 @@ fn layers_of(
     c: Cursor,
 ) -> Filled
     requires { ⌜ (next + n ≤ 16) × Sound (now el) (c .at) (c .read) ⌝ }
-    ensures { λ r. ⌜ toldFilled r ≡ told (run (now (el .entry)) (layers version n next streams) (c .at) (c .read)) ⌝ }
+    ensures { λ r. ⌜ LayersPromise version n next streams (now (el .entry)) (c .at) (c .read) r ⌝ }
 {
     let mut cur = c;
     let mut kept = streams;
@@ -219,7 +223,7 @@ fn layers_of(
             let x = why_streamed(got);
             return Filled {
                 verdict: Verdict::Refused(x),
-                streams: kept,
+                streams: streams,
             };
         };
         kept[i] = s;
@@ -233,15 +237,25 @@ fn layers_of(
     }
 }
 
-// The programs 0 to n, and the row of each in the table.
+fn refused_placed(x: Refusal) -> Placed
+    ensures { λ r. ⌜ (r .verdict ≡ Refused x) × (placesOf r ≡ noPlaces) ⌝ }
+{
+    let blank = no_stream();
+    Placed {
+        verdict: Verdict::Refused(x),
+        layers: [0; 16],
+        streams: [blank; 16],
+    }
+}
+
+// The programs 0 to n, and the row of each in the table; a refusal leaves the table lent as it stood.
 pub fn programs_of(el: &[u8], version: u32, n: u32, c: Cursor, table: &mut [[u8; 8]; 16]) -> Placed
     requires { ⌜ (n ≤ 15) × Sound (now el) (c .at) (c .read) ⌝ }
-    ensures told { λ r. ⌜ toldPlaced r ≡ told (run (now (el .entry)) (programs version (n + 1) 0 0 noPlaces) (c .at) (c .read)) ⌝ }
-    ensures table { λ r. ⌜ IfDone (r .verdict) (now (table .exit) ≡ tableOf (r .layers) n) ⌝ }
+    ensures told { λ r. ⌜ ProgramsPromise version n (now (el .entry)) (c .at) (c .read) (now (table .entry)) r (now (table .exit)) ⌝ }
     ensures few { λ r. ⌜ IfDone (r .verdict) (streamsIn (r .layers) n 16 ≤ 16) ⌝ }
 {
     let none = [255; 8];
-    *table = [none; 16];
+    let mut cells = [none; 16];
     let blank = no_stream();
     let mut streams = [blank; 16];
     let mut layers: [u32; 16] = [0; 16];
@@ -254,11 +268,7 @@ pub fn programs_of(el: &[u8], version: u32, n: u32, c: Cursor, table: &mut [[u8;
         let three = fetch(el, Window::Open, cur, 3);
         let Fetched::Value(k, c1) = three else {
             let x = why(three);
-            return Placed {
-                verdict: Verdict::Refused(x),
-                layers: layers,
-                streams: streams,
-            };
+            return refused_placed(x);
         };
         let count = k as usize + 1;
         if 16 < next + count {
@@ -267,32 +277,25 @@ pub fn programs_of(el: &[u8], version: u32, n: u32, c: Cursor, table: &mut [[u8;
                 place: place,
                 read: c1.read,
             };
-            return Placed {
-                verdict: Verdict::Refused(x),
-                layers: layers,
-                streams: streams,
-            };
+            return refused_placed(x);
         }
         let got = layers_of(el, version, k + 1, next, streams, c1);
         let v = got.verdict;
         let Verdict::Done(c2) = v else {
             let x = why_verdict(v);
-            return Placed {
-                verdict: Verdict::Refused(x),
-                layers: layers,
-                streams: streams,
-            };
+            return refused_placed(x);
         };
         let filled = got.streams;
         streams = filled;
         layers[p] = k;
         let row = row_from(next, count);
-        table[p] = row;
+        cells[p] = row;
         cur = c2;
         p += 1;
         next += count;
         left -= 1;
     }
+    *table = cells;
     Placed {
         verdict: Verdict::Done(cur),
         layers: layers,

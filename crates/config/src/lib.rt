@@ -4,12 +4,12 @@ mod layers;
 mod tail_fields;
 
 ghost use mathlib.Core.Path.{_≡_};
-ghost use Rattle.kernel.specs.Reading.{run, Sound};
-ghost use Rattle.kernel.specs.Answer.{told};
+ghost use Rattle.kernel.specs.Reading.{Sound};
 ghost use Rattle.records.specs.Blank.{noRecord};
 ghost use Rattle.config.specs.declared.Verdict.the-variants.{Refused};
-ghost use Rattle.config.specs.Mux.{layers, streamMuxConfig, recordOf};
-ghost use Rattle.config.specs.Answer.{toldMux, whyVerdict, IfDone, IfRefused, tableAfter, Few};
+ghost use Rattle.config.specs.Mux.{recordOf};
+ghost use Rattle.config.specs.Answer.{whyVerdict, IfDone, Few};
+ghost use Rattle.config.specs.Promises.{MuxPromise};
 use head_fields::head_of;
 use head_fields::why_headed;
 use kernel::Cursor;
@@ -127,9 +127,7 @@ fn record_of(h: Head, layers: [u32; 16], streams: [Stream; 16], t: Tail) -> Reco
 // A whole StreamMuxConfig, and the table of its streams; a refusal leaves the table lent as it stood.
 pub fn stream_mux_config(el: &[u8], c: Cursor, table: &mut [[u8; 8]; 16]) -> Mux
     requires { ⌜ Sound (now el) (c .at) (c .read) ⌝ }
-    ensures told { λ r. ⌜ toldMux r ≡ told (run (now (el .entry)) streamMuxConfig (c .at) (c .read)) ⌝ }
-    ensures blank { λ r. ⌜ IfRefused (r .verdict) (r .held ≡ noRecord) ⌝ }
-    ensures table { λ r. ⌜ now (table .exit) ≡ tableAfter (r .verdict) (now (table .entry)) (r .held) ⌝ }
+    ensures told { λ r. ⌜ MuxPromise (now (el .entry)) (c .at) (c .read) (now (table .entry)) r (now (table .exit)) ⌝ }
     ensures few { λ r. ⌜ IfDone (r .verdict) (Few (r .held)) ⌝ }
 {
     let head = head_of(el, c);

@@ -1,8 +1,9 @@
 // Other data and checksum, as the configuration announces them.
 ghost use mathlib.Core.Path.{_≡_};
 ghost use lib.Dec.{eqb};
-ghost use Rattle.kernel.specs.Reading.{choose, give, field, run, Sound};
-ghost use Rattle.kernel.specs.Answer.{told, toldFetched};
+ghost use Rattle.kernel.specs.Reading.{choose, give, field, Sound};
+ghost use Rattle.kernel.specs.Answer.{toldFetched};
+ghost use Rattle.kernel.specs.Promises.{Tells};
 ghost use Rattle.kernel.specs.declared.Window.the-variants.{Open};
 ghost use Rattle.config.specs.Mux.{otherLength, muxTail};
 ghost use Rattle.config.specs.Answer.{toldTailed, whyTailed};
@@ -19,7 +20,7 @@ use kernel::why;
 
 fn other_length(el: &[u8], version: u32, c: Cursor) -> Fetched
     requires { ⌜ Sound (now el) (c .at) (c .read) ⌝ }
-    ensures { λ r. ⌜ toldFetched r ≡ told (run (now (el .entry)) (otherLength version) (c .at) (c .read)) ⌝ }
+    ensures { λ r. ⌜ Tells toldFetched (now (el .entry)) (otherLength version) (c .at) (c .read) r ⌝ }
 {
     if version == 1 {
         return latm_get_value(el, c);
@@ -29,7 +30,7 @@ fn other_length(el: &[u8], version: u32, c: Cursor) -> Fetched
 
 fn other_if(el: &[u8], version: u32, other: u32, c: Cursor) -> Fetched
     requires { ⌜ Sound (now el) (c .at) (c .read) ⌝ }
-    ensures { λ r. ⌜ toldFetched r ≡ told (run (now (el .entry)) (choose (eqb other 1) (otherLength version) (give 0)) (c .at) (c .read)) ⌝ }
+    ensures { λ r. ⌜ Tells toldFetched (now (el .entry)) (choose (eqb other 1) (otherLength version) (give 0)) (c .at) (c .read) r ⌝ }
 {
     if other == 1 {
         return other_length(el, version, c);
@@ -39,7 +40,7 @@ fn other_if(el: &[u8], version: u32, other: u32, c: Cursor) -> Fetched
 
 fn crc_if(el: &[u8], checked: u32, c: Cursor) -> Fetched
     requires { ⌜ Sound (now el) (c .at) (c .read) ⌝ }
-    ensures { λ r. ⌜ toldFetched r ≡ told (run (now (el .entry)) (choose (eqb checked 1) (field Open 8) (give 0)) (c .at) (c .read)) ⌝ }
+    ensures { λ r. ⌜ Tells toldFetched (now (el .entry)) (choose (eqb checked 1) (field Open 8) (give 0)) (c .at) (c .read) r ⌝ }
 {
     if checked == 1 {
         return fetch(el, Window::Open, c, 8);
@@ -49,7 +50,7 @@ fn crc_if(el: &[u8], checked: u32, c: Cursor) -> Fetched
 
 pub fn tail_of(el: &[u8], version: u32, c: Cursor) -> Tailed
     requires { ⌜ Sound (now el) (c .at) (c .read) ⌝ }
-    ensures { λ r. ⌜ toldTailed r ≡ told (run (now (el .entry)) (muxTail version) (c .at) (c .read)) ⌝ }
+    ensures { λ r. ⌜ Tells toldTailed (now (el .entry)) (muxTail version) (c .at) (c .read) r ⌝ }
 {
     let a = fetch(el, Window::Open, c, 1);
     let Fetched::Value(other, c1) = a else {

@@ -1,2 +1,3 @@
 -- Laws that the proofs of several functions share.
 pub mod Turns
+pub mod Contracts

@@ -10,7 +10,7 @@ use Rattle.records.specs.Blank.{noStream}
 use Rattle.records.specs.Table.{streamsIn}
 use Rattle.asc.specs.Values.{groupsAfter}
 use Rattle.config.specs.Mux.{layerBits, configAt, layersBits, programsBits}
-use Rattle.config.proofs.TripMux.{in-more, in-upto}
+use Rattle.records.proofs.Tables.{streams-next, streams-upto}
 
 pub groups-turn : (k v : ℕ) → 0 < k → groupsAfter k v ≡ bitsOf 1 1 ++ (bitsOf 8 (v / 2 ^ (8 * k)) ++ groupsAfter (k - 1) v)
 unfolding groupsAfter
@@ -33,4 +33,4 @@ module _ (version : ℕ) (streams : List Stream) where
 
 -- of at most 16 streams, those up to program p are not more
 pub few-streams : (ks : List ℕ) (n p : ℕ) → p ≤ n → n ≤ 15 → streamsIn ks n 16 ≤ 16 → streamsIn ks n p + (getD ks p 0 + 1) ≤ 16
-few-streams ks n p h l few = omega (arith, in-more ks n p h, in-upto ks n (p + 1) 16 (omega arith))
+few-streams ks n p h l few = omega (arith, streams-next ks n p h, streams-upto ks n (p + 1) 16 (omega arith))

@@ -13,7 +13,8 @@ use Rattle.records.specs.declared.Stream.{Stream}
 use Rattle.element.specs.declared.Held.{Held}
 use Rattle.element.specs.Mux.{Applied, payloadMux, subframe, subframes, otherData, byteAlignment, body, applied, afterFlag, audioMuxElement, rest}
 use Rattle.element.specs.Parts.{made}
-use Rattle.element.specs.Claims.{contentOf, EachByKind}
+use Rattle.element.specs.Left.{contentOf}
+use Rattle.element.specs.Claims.{EachByKind}
 
 module _ {A : Type 0} where
   -- a tree in which each item has the content of its kind

@@ -10,7 +10,7 @@ use lib.Seq.{sets}
 use Rattle.kernel.specs.declared.Refusal.{Refusal}
 use Rattle.kernel.specs.declared.Fetched.{Fetched}
 use Rattle.kernel.specs.declared.Fetched.the-variants.{Value, Refused}
-use Rattle.kernel.specs.Reading.{Reading, Outcome, gave, refused, stop, run}
+use Rattle.kernel.specs.Reading.{Reading, Outcome, gave, refused, run}
 use Rattle.kernel.specs.Answer.{Told, value, refusal, told}
 use Rattle.kernel.specs.Element.{Passing, closed, fields, passed, Item, item, Element, done, part, over, spot, follow, Passage, came, fell, withItem, next, walk}
 use Rattle.kernel.proofs.Chain.{Comes, apart, gave-told}
@@ -78,14 +78,6 @@ module _ {A : Type 0} {s : List ℕ} {at n k : ℕ} {store : Bool} {map : List �
   pub goes-spot : (f : ℕ → Element A) → Goes s (spot f) at n k store map o out → Goes s (f at) at n k store map o out
   unfolding walk
   goes-spot f g = record { told = g .told; stored = g .stored }
-
-  pub goes-over : (c : Passing) (kind stream w : ℕ) (e : Element A) → at + w ≤ 8 * length s → Goes s (over c kind stream w e) at n k store map o out
-      → Goes s e (at + w) n (k + 1) store (storedIf store map k (item (passed c) kind stream at w ∷ [])) o out
-  goes-over c kind stream w e h g = turn (item (passed c) kind stream at w) e _ (at + w) n (walk-over s at n c kind stream w e h) g
-
-  pub goes-short : (c : Passing) (kind stream w : ℕ) (e : Element A) → 8 * length s < at + w → Goes s (over c kind stream w e) at n k store map o out
-      → (refusal (record { number = 3; place = at; read = n }) ≡ o) × (map ≡ out)
-  goes-short c kind stream w e h g = halt _ (fell (stop 3 at 0 n) []) _ (walk-short s at n c kind stream w e h) refl refl g
 
   pub goes-part : {B : Type 0} (kind : ℕ) (m : Reading B) (f : B → Element A) {b : B} {at′ n′ : ℕ} → Comes s m at n (value b at′ n′)
       → Goes s (part B kind m f) at n k store map o out

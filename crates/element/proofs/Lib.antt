@@ -7,7 +7,13 @@ pub mod Came
 pub mod Order
 pub mod Contents
 pub mod Alignment
-pub mod Kept
+pub mod Unbounded
+pub mod Few
+pub mod Streams
 pub mod Productions
 pub mod Worked
+pub mod Edges
+pub mod Widths
 pub mod Theorems
+pub mod Demands
+pub mod Contracts

@@ -1,16 +1,17 @@
 -- One turn of the readings that loop.
-use mathlib.Core.Path.{_≡_, _∙_}
+use mathlib.Core.Path.{_≡_, sym, ap, _∙_}
 use mathlib.Core.List.{List, [], _∷_, _++_}
 use Prim.Native.Nat.{ℕ, zero, suc, _+_, _-_, _<_, _≤_}
 use native.Mathlib.Numerals.{add-one}
 use native.Mathlib.Omega.{arith}
-use lib.ListN.{length, getD, set, take, drop, length-take, drop-of-length-le}
-use lib.Seq.{drop-cons, getD-take, take-suc-set}
+use lib.ListN.{length, getD, set, take, drop, replicate, length-take, drop-of-length-le}
+use lib.Seq.{drop-cons, drop-drop, drop-set-lt, getD-take, take-suc-set}
 use borrow.Author.Tests.{eq-eqb, ne-eqb}
 use Rattle.kernel.specs.declared.Window.the-variants.{Open}
 use Rattle.kernel.specs.declared.Refusal.{Refusal}
 use Rattle.kernel.specs.Reading.{field}
 use Rattle.kernel.specs.Answer.{Told, value, refusal}
+use Rattle.kernel.proofs.Lists.{drop-replicate}
 use Rattle.kernel.proofs.Chain.{Comes, gives, on, off, yes-way, no-way, itself, goes-on}
 use Rattle.records.specs.declared.Stream.{Stream}
 use Rattle.records.specs.Blank.{noStream}
@@ -66,3 +67,9 @@ module _ {s : List ℕ} {at k : ℕ} (ss : List Stream) (n : ℕ) where
 -- a width stored behind those that stand
 pub widths-more : (ws : List ℕ) (i w : ℕ) → i < length ws → take (i + 1) (set ws i w) ≡ take i ws ++ (w ∷ [])
 widths-more ws i w h = rw add-one (take-suc-set ws i w h)
+
+-- and behind it zeros
+pub zeros-more : (ws : List ℕ) (i w : ℕ) → drop i ws ≡ replicate (16 - i) 0 → drop (i + 1) (set ws i w) ≡ replicate (16 - (i + 1)) 0
+zeros-more ws i w h =
+    let e : 16 - i - 1 ≡ 16 - (i + 1) = omega arith in
+    drop-set-lt (i + 1) ws i w (omega arith) ∙ sym (drop-drop 1 i ws) ∙ ap (drop 1) h ∙ drop-replicate 1 (16 - i) 0 ∙ ap (λ (n : ℕ). replicate n 0) e

@@ -6,9 +6,9 @@ use Rattle.kernel.specs.Element.{withItem, overFit, next, walk, follow}
 use Rattle.kernel.specs.Lists.{tab, allOf}
 use Rattle.records.specs.Table.{streamsIn, tableOf}
 use Rattle.asc.specs.Values.{bytesFrom, latmGetValue}
-use Rattle.asc.specs.Asc.{objectType, anyType, frequency, channelConfiguration, unset, psExtension, psTail, sbrExtension, extensionType, syncExtension, tail, gaSpecificConfig, alone, audioSpecificConfig}
-use Rattle.config.specs.Mux.{windowed, configuration, frameLength, layer, layers, programs, muxHead, muxTail, streamMuxConfig}
-use Rattle.element.specs.Mux.{slotFrom, slotOf, payloadLengthInfo, payloadMux, subframe, subframes, otherData, byteAlignment, applied, useSameStreamMux, afterFlag, audioMuxElement, rest}
+use Rattle.asc.specs.Asc.{objectType, anyType, hertz, frequency, channelConfiguration, unset, psExtension, psTail, sbrExtension, extensionType, syncExtension, tail, gaSpecificConfig, alone, underFront, audioSpecificConfig}
+use Rattle.config.specs.Mux.{windowed, configuration, frameLength, sentOrSame, layer, layers, programs, variantA, muxHead, muxTail, streamMuxConfig}
+use Rattle.element.specs.Mux.{slotFrom, slotOf, payloadLengthInfo, payloadMux, subframe, subframes, otherData, byteAlignment, applied, useSameStreamMux, afterFlag, audioMuxElement, rest, muxSlotLengthBytes}
 use Rattle.element.specs.Reply.{answer, numbers}
 use Rattle.element.specs.Worked.{AllComeOut, table, Worked}
 
@@ -18,11 +18,13 @@ a & b = (a, b)
 
 pub worked : Worked
 unfolding AllComeOut table answer numbers audioMuxElement afterFlag useSameStreamMux applied rest byteAlignment otherData subframes subframe payloadMux
-    payloadLengthInfo slotOf slotFrom streamMuxConfig muxTail muxHead programs layers layer frameLength configuration windowed
-    audioSpecificConfig alone gaSpecificConfig tail syncExtension extensionType sbrExtension psTail psExtension unset channelConfiguration
-    frequency anyType objectType latmGetValue bytesFrom allOf tableOf streamsIn tab follow walk next overFit withItem run onFit fit need choose here
+    payloadLengthInfo slotOf muxSlotLengthBytes slotFrom streamMuxConfig muxTail muxHead variantA programs layers layer sentOrSame frameLength configuration windowed
+    audioSpecificConfig alone underFront gaSpecificConfig tail syncExtension extensionType sbrExtension psTail psExtension unset channelConfiguration
+    frequency hertz anyType objectType latmGetValue bytesFrom allOf tableOf streamsIn tab follow walk next overFit withItem run onFit fit need choose here
     pass field _>>=_ _>>_ valueAt bitAt
 worked =
     (refl, refl) & refl & refl & (refl, refl) & (refl, refl) & (refl, refl) & (refl, refl) & (refl, refl) & refl
     & (refl, refl, refl, refl, refl) & (refl, refl) & (refl, refl, refl, refl, refl) & (refl, refl)
-    & (refl, refl, refl, refl, refl) & (refl, refl, refl, refl, refl) & tt
+    & (refl, refl, refl, refl, refl) & (refl, refl, refl, refl, refl)
+    & (refl, refl) & refl & (refl, refl) & (refl, refl) & refl & (refl, refl) & (refl, refl) & refl & (refl, refl)
+    & (refl, refl) & refl & refl & refl & refl & refl & refl & refl & tt

@@ -1,22 +1,27 @@
--- The demands, of what a reading of an element replies. proofs/Theorems.antt has the theorem of each.
+-- What is claimed of an element, of what its reading answers. proofs/Theorems.antt has the theorem of each; the demands follow in Demands.
 use mathlib.Core.Path.{_≡_}
-use mathlib.Core.Bool.{true, cond, _||_}
+use mathlib.Core.Bool.{true, false, cond, Bool}
 use mathlib.Core.List.{List, [], _∷_, _++_}
 use Prim.Native.Nat.{ℕ, zero, suc, _+_, _*_, _≤_, _<_}
 use lib.Dec.{eqb}
 use lib.ListN.{length}
-use Rattle.kernel.specs.Bits.{bitAt}
-use Rattle.kernel.specs.Reading.{Stop}
-use Rattle.kernel.specs.Element.{closed, spare, Content, fields, passed, Item, accepted, rejected, itemsOf, countOf, OneItem, InClosed, sumWidths, sumPassed}
+use Rattle.kernel.specs.Bits.{bitAt, valueAt}
+use Rattle.kernel.specs.Reading.{Stop, stop, Outcome, gave, refused, run, after}
+use Rattle.kernel.specs.Element.{Item, accepted, rejected, itemsOf, countOf, placeOf, Tiles, OneItem, InClosed, sumWidths, sumPassed, Element, closed, fields, passed}
+use Rattle.kernel.specs.Promises.{TellsOnce}
+use Rattle.records.specs.declared.Stream.{Stream}
 use Rattle.records.specs.declared.Record.{Record}
+use Rattle.records.specs.Table.{streamsIn}
+use Rattle.records.specs.Valid.{validOf}
 use Rattle.element.specs.declared.Held.{Held}
-use Rattle.element.specs.Mux.{kindU, kindC, kindL, kindP, kindO, kindA, Applied, streamsOf}
+use Rattle.element.specs.Mux.{kindU, kindC, kindL, kindP, kindO, kindA, Applied, streamsOf, usable, muxSlotLengthBytes, slotOf}
+use Rattle.element.specs.declared.Lengths.{Lengths}
+use Rattle.element.specs.declared.Verdict.{Verdict}
 use Rattle.element.specs.declared.Reply.{Reply}
-use Rattle.element.specs.Reply.{answer, replyOf, mapAfter, tableAfter}
-
--- payload and other data are closed, alignment is spare, and the other items are read field by field
-abbrev pub contentOf : ℕ → Content
-contentOf kind = cond (eqb kind kindP || eqb kind kindO) (passed closed) (cond (eqb kind kindA) (passed spare) fields)
+use Rattle.element.specs.Reply.{answer, replyOf}
+use Rattle.element.specs.Left.{contentOf}
+use Rattle.element.specs.Parts.{toldSpanned}
+use Rattle.element.specs.Promises.{LengthsPromise, FinishPromise, ReadPromise, ReadWithPromise}
 
 -- the content of each item is its kind's
 unfoldable pub EachByKind : List Item → Type 0
@@ -27,6 +32,11 @@ EachByKind (it ∷ its) = (it .content ≡ contentOf (it .kind)) × EachByKind i
 unfoldable pub marks : List Item → List ℕ
 marks [] = []
 marks (it ∷ its) = it .kind ∷ it .stream ∷ marks its
+
+-- the stream of each item is below k
+unfoldable pub EachBelow : ℕ → List Item → Type 0
+EachBelow k [] = Unit {0}
+EachBelow k (it ∷ its) = (it .stream < k) × EachBelow k its
 
 -- a payload of each of k streams from stream i on
 unfoldable pub payloadMarks : ℕ → ℕ → List ℕ
@@ -58,8 +68,40 @@ pub record EndsShort (its : List Item) : Type 0 where
   pub aligns : last .kind ≡ kindA
   pub short : last .width < 8
 
+-- the k bytes from bit `at` on lie in the element, and each is 255
+pub record Full (s : List ℕ) (at k : ℕ) : Type 0 where
+  pub inside : at + 8 * k ≤ 8 * length s
+  pub ones : (j : ℕ) → j < k → valueAt s (at + 8 * j) 8 ≡ 255
+
+-- what bytes from bit `at` on come to, with n fields read before them, when they are added to v until one is not 255.
+-- ends: after k bytes of 255 there is one that is not, b. cut: after k of them the element has no whole byte left, which is 3 at the place of the byte that is missing
+pub data Added (s : List ℕ) (v at n : ℕ) (o : Outcome ℕ) : Type 0 where
+  ends : (k b : ℕ) → Full s at k → at + 8 * (k + 1) ≤ 8 * length s → valueAt s (at + 8 * k) 8 ≡ b → (b ≡ 255 → ⊥)
+      → o ≡ gave (v + 255 * k + b) (at + 8 * (k + 1)) (n + (k + 1)) → Added s v at n o
+  cut : (k : ℕ) → Full s at k → 8 * length s < at + 8 * (k + 1) → o ≡ refused (stop 3 (at + 8 * k) 0 (n + k)) → Added s v at n o
+
+-- in an element of at most 8,191 bytes MuxSlotLengthBytes has no bound
+abbrev pub SlotIsUnbounded : Type 0
+SlotIsUnbounded = (s : List ℕ) (at n : ℕ) → length s ≤ 8191 → at ≤ 8 * length s → Added s 0 at n (run s muxSlotLengthBytes at n)
+
+-- and by it the slot of a stream of frameLengthType 0 is read, in bits
+abbrev pub SlotByLengthBytes : Type 0
+SlotByLengthBytes = (s : List ℕ) (at n slot : ℕ) → run s (slotOf 0 slot) at n ≡ after (run s muxSlotLengthBytes at n) (λ v to m. gave (8 * v) to m)
+
+-- the streams of a record that 16 does not refuse are those of all its programs, numLayer + 1 of each; an array has 16 places
+abbrev pub StreamsAreAll : Type 0
+StreamsAreAll = (r : Record) → validOf r ≡ true → length (r .streams) ≡ 16 → length (streamsOf r) ≡ streamsIn (r .layers) (r .programs) (r .programs + 1)
+
 module _ (s : List ℕ) (held : Held) (room : ℕ) where
-  -- in an accepted element each bit lies in exactly one item, and the widths add up to its bits
+  -- an element is accepted only with room for 1,092 items, and of 1 to 8,191 bytes
+  abbrev pub AcceptedFits : Type 0
+  AcceptedFits = (a : Applied) (its : List Item) (n : ℕ) → answer s held room ≡ accepted a its n → (4368 ≤ room) × (1 ≤ length s) × (length s ≤ 8191)
+
+  -- the items of an accepted element stand one after the other over all its bits
+  abbrev pub ItemsTile : Type 0
+  ItemsTile = (a : Applied) (its : List Item) (n : ℕ) → answer s held room ≡ accepted a its n → Tiles 0 its (8 * length s)
+
+  -- each bit lies in exactly one of them, and their widths add up to its bits
   abbrev pub EachBitInOneItem : Type 0
   EachBitInOneItem = (a : Applied) (its : List Item) (n : ℕ) → answer s held room ≡ accepted a its n → (i : ℕ) → i < 8 * length s → OneItem its i
 
@@ -69,6 +111,14 @@ module _ (s : List ℕ) (held : Held) (room : ℕ) where
   -- the items stand in the order of the map
   abbrev pub MapInOrder : Type 0
   MapInOrder = (a : Applied) (its : List Item) (n : ℕ) → answer s held room ≡ accepted a its n → marks its ≡ orderOf a
+
+  -- name no streams but 0 to 15
+  abbrev pub StreamsAreFew : Type 0
+  StreamsAreFew = (a : Applied) (its : List Item) (n : ℕ) → answer s held room ≡ accepted a its n → EachBelow 16 its
+
+  -- and are no more than 1,092, four numbers each: those that a map must have room for
+  abbrev pub ItemsAreFew : Type 0
+  ItemsAreFew = (a : Applied) (its : List Item) (n : ℕ) → answer s held room ≡ accepted a its n → length its ≤ 1092
 
   -- the alignment, which is the last of them, is less than 8 bits wide
   abbrev pub AlignmentIsShort : Type 0
@@ -81,6 +131,14 @@ module _ (s : List ℕ) (held : Held) (room : ℕ) where
   -- the count is at most the bits outside payload, other data and alignment
   abbrev pub CountIsBounded : Type 0
   CountIsBounded = countOf (answer s held room) + sumPassed (itemsOf (answer s held room)) ≤ 8 * length s
+
+  -- a refusal stands at a bit of the element, or behind its last
+  abbrev pub PlaceIsInside : Type 0
+  PlaceIsInside = placeOf (answer s held room) ≤ 8 * length s
+
+  -- so place and count are at most 8 × 8,191
+  abbrev pub FiguresAreSmall : Type 0
+  FiguresAreSmall = (placeOf (answer s held room) ≤ 65528) × (countOf (answer s held room) ≤ 65528)
 
   -- an element of the same length that agrees outside payload and other data gets the same map, count and configuration
   abbrev pub SameAccepted : Type 0
@@ -98,25 +156,55 @@ module _ (s : List ℕ) (held : Held) (room : ℕ) where
   abbrev pub SentStandsAlone : Type 0
   SentStandsAlone = (other : Held) → bitAt s 0 ≡ 0 → answer s held room ≡ answer s other room
 
-  -- a refusal loses nothing: what was held is held, and map and table are as they stood
-  abbrev pub RefusalLosesNothing : Type 0
-  RefusalLosesNothing = (r : Stop) (its : List Item) → answer s held room ≡ rejected r its
-      → (replyOf s held room .held ≡ held) × ((map : List ℕ) → mapAfter map (answer s held room) ≡ map) × ((table : List (List ℕ)) → tableAfter table (answer s held room) ≡ table)
-
   -- a refusal is one of the table's
   abbrev pub RefusalIsNumbered : Type 0
   RefusalIsNumbered = (r : Stop) (its : List Item) → answer s held room ≡ rejected r its → (1 ≤ r .refusal .number) × (r .refusal .number ≤ 15)
+
+  -- 4 is given only where useSameStreamMux is 1 and nothing is held, or a record that 16 refuses,
+  abbrev pub FourIsNothingHeld : Type 0
+  FourIsNothingHeld = (r : Stop) (its : List Item) → answer s held room ≡ rejected r its → r .refusal .number ≡ 4 → (bitAt s 0 ≡ 1) × (usable held ≡ false)
+
+  -- and there always, behind 1 and 2
+  abbrev pub NothingHeldIsFour : Type 0
+  NothingHeldIsFour = 4368 ≤ room → 1 ≤ length s → length s ≤ 8191 → bitAt s 0 ≡ 1 → usable held ≡ false → answer s held room ≡ rejected (stop 4 0 1 1) []
+
+  -- a configuration that was sent is one that 16 does not refuse
+  abbrev pub SentIsValid : Type 0
+  SentIsValid = (a : Applied) (its : List Item) (n : ℕ) → answer s held room ≡ accepted a its n → a .sent ≡ true → validOf (a .config) ≡ true
+
+  -- where none was sent, the held one applied, and 16 does not refuse it either
+  abbrev pub HeldApplies : Type 0
+  HeldApplies = (a : Applied) (its : List Item) (n : ℕ) → answer s held room ≡ accepted a its n
+      → a .sent ≡ false → (a .config ≡ held .config) × (usable held ≡ true)
+
+  -- so behind an accepted element that sent a configuration none is refused by 4, whatever it is and whatever its map,
+  abbrev pub NextIsNot4 : Type 0
+  NextIsNot4 = (a : Applied) (its : List Item) (n : ℕ) → answer s held room ≡ accepted a its n → a .sent ≡ true
+      → (t : List ℕ) (more : ℕ) (r : Stop) (before : List Item) → answer t (replyOf s held room .held) more ≡ rejected r before → r .refusal .number ≡ 4 → ⊥
+
+  -- and as long as elements are read, accepted or refused, this stays so: what can be used is held on
+  abbrev pub UsableStays : Type 0
+  UsableStays = usable held ≡ true → usable (replyOf s held room .held) ≡ true
 
   -- a record that was sent has 16 places in each of its arrays, so that it fits the types of the code
   abbrev pub SentHasItsPlaces : Type 0
   SentHasItsPlaces = (a : Applied) (its : List Item) (n : ℕ) → answer s held room ≡ accepted a its n
       → a .sent ≡ true → (length (a .config .layers) ≡ 16) × (length (a .config .streams) ≡ 16)
 
-  -- the promises of `read` and `read_with` allow one reply and one final map
-  abbrev pub ReadOnce : Type 0
-  ReadOnce = (x y : Reply) (map map₁ map₂ : List ℕ) → x ≡ replyOf s held room → y ≡ replyOf s held room
-      → map₁ ≡ mapAfter map (answer s held room) → map₂ ≡ mapAfter map (answer s held room) → (x ≡ y) × (map₁ ≡ map₂)
+-- each promise allows one answer, and one content of what is lent
+abbrev pub SpannedOnce : Type 0
+SpannedOnce = TellsOnce toldSpanned
 
-  -- and that of `read_with` one final table
-  abbrev pub TableOnce : Type 0
-  TableOnce = (table table₁ table₂ : List (List ℕ)) → table₁ ≡ tableAfter table (answer s held room) → table₂ ≡ tableAfter table (answer s held room) → table₁ ≡ table₂
+abbrev pub LengthsOnce : Type 0
+LengthsOnce = (streams : List Stream) (k : ℕ) (s : List ℕ) (at n : ℕ) (x y : Lengths) → LengthsPromise streams k s at n x → LengthsPromise streams k s at n y → x ≡ y
+
+abbrev pub FinishOnce : Type 1
+FinishOnce = (sent : Bool) (s : List ℕ) (e : Element Unit) (at n : ℕ) (x y : Verdict) (map map₁ map₂ : List ℕ)
+    → FinishPromise sent s e at n map x map₁ → FinishPromise sent s e at n map y map₂ → (x ≡ y) × (map₁ ≡ map₂)
+
+abbrev pub ReadOnce : Type 0
+ReadOnce = (s : List ℕ) (held : Held) (x y : Reply) (map map₁ map₂ : List ℕ) → ReadPromise s held map x map₁ → ReadPromise s held map y map₂ → (x ≡ y) × (map₁ ≡ map₂)
+
+abbrev pub ReadWithOnce : Type 0
+ReadWithOnce = (s : List ℕ) (held : Held) (x y : Reply) (map map₁ map₂ : List ℕ) (table table₁ table₂ : List (List ℕ))
+    → ReadWithPromise s held map table x map₁ table₁ → ReadWithPromise s held map table y map₂ table₂ → (x ≡ y) × (map₁ ≡ map₂) × (table₁ ≡ table₂)

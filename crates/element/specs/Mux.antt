@@ -38,16 +38,20 @@ pub record Applied : Type 0 where
   pub sent : Bool
   pub config : Record
 
--- MuxSlotLengthBytes: bytes added to v until one is not 255; an element has no more than n of them
+-- bytes added to v until one is not 255, as long as there are no more than n of them
 unfoldable pub slotFrom : ℕ → ℕ → Reading ℕ
 slotFrom zero v = give v
 slotFrom (suc n) v = do
   b ← field Open 8
   choose (eqb b 255) (slotFrom n (v + 255)) (give (v + b))
 
+-- MuxSlotLengthBytes. An element has fewer than 8,192 bytes, so the bound is never met: SlotIsUnbounded in Claims
+unfoldable pub muxSlotLengthBytes : Reading ℕ
+muxSlotLengthBytes = slotFrom 8192 0
+
 -- the bits of a stream's slot: of frameLengthType 0 by length bytes, of type 1 fixed
 unfoldable pub slotOf : ℕ → ℕ → Reading ℕ
-slotOf kind slot = choose (eqb kind 0) (slotFrom 8192 0 >>= λ v. give (8 * v)) (give (8 * (slot + 20)))
+slotOf kind slot = choose (eqb kind 0) (muxSlotLengthBytes >>= λ v. give (8 * v)) (give (8 * (slot + 20)))
 
 -- PayloadLengthInfo: of all streams, after those of which the slots are ws
 unfoldable pub payloadLengthInfo : List ℕ → List Stream → Reading (List ℕ)

@@ -11,8 +11,9 @@ ghost use Rattle.kernel.specs.Element.{read};
 ghost use Rattle.config.specs.Answer.{Few};
 ghost use Rattle.element.specs.declared.Verdict.the-variants.{Refused};
 ghost use Rattle.element.specs.Mux.{usable, audioMuxElement};
-ghost use Rattle.element.specs.Reply.{nothingHeld, answer, verdictOf, mapAfter, tableAfter, replyWith, replyOf};
+ghost use Rattle.element.specs.Reply.{nothingHeld, verdictOf, mapAfter, tableAfter, replyWith};
 ghost use Rattle.element.specs.Parts.{behindOf, heldSent, tableSent, sentOf};
+ghost use Rattle.element.specs.Promises.{ReadPromise, ReadWithPromise};
 use config::stream_mux_config;
 use config::why_verdict;
 use kernel::Cursor;
@@ -205,9 +206,7 @@ fn refused_unread(number: usize, held: Held) -> Reply
 // One element, with the configuration held before it; its items are stored into the map lent, four numbers each, and the streams of an
 // accepted configuration into the table lent.
 pub fn read_with(el: &[u8], held: Held, map: &mut [u32], table: &mut [[u8; 8]; 16]) -> Reply
-    ensures reply { λ r. ⌜ r ≡ replyOf (now (el .entry)) held (length (now (map .entry))) ⌝ }
-    ensures map { λ r. ⌜ now (map .exit) ≡ mapAfter (now (map .entry)) (answer (now (el .entry)) held (length (now (map .entry)))) ⌝ }
-    ensures table { λ r. ⌜ now (table .exit) ≡ tableAfter (now (table .entry)) (answer (now (el .entry)) held (length (now (map .entry)))) ⌝ }
+    ensures { λ r. ⌜ ReadWithPromise (now (el .entry)) held (now (map .entry)) (now (table .entry)) r (now (map .exit)) (now (table .exit)) ⌝ }
 {
     if map.len() < 4368 {
         return refused_unread(1, held);
@@ -224,8 +223,7 @@ pub fn read_with(el: &[u8], held: Held, map: &mut [u32], table: &mut [[u8; 8]; 1
 
 // The same, for callers without rows to show.
 pub fn read(el: &[u8], held: Held, map: &mut [u32]) -> Reply
-    ensures reply { λ r. ⌜ r ≡ replyOf (now (el .entry)) held (length (now (map .entry))) ⌝ }
-    ensures map { λ r. ⌜ now (map .exit) ≡ mapAfter (now (map .entry)) (answer (now (el .entry)) held (length (now (map .entry)))) ⌝ }
+    ensures { λ r. ⌜ ReadPromise (now (el .entry)) held (now (map .entry)) r (now (map .exit)) ⌝ }
 {
     let none = [255; 8];
     let mut table = [none; 16];

@@ -1,12 +1,12 @@
 // Slot lengths, as they are sent or fixed.
 ghost use mathlib.Core.Path.{_≡_};
-ghost use mathlib.Core.List.{[]};
 ghost use Prim.Native.Nat.{_≤_};
-ghost use lib.ListN.{take};
-ghost use Rattle.kernel.specs.Reading.{run, Sound};
-ghost use Rattle.kernel.specs.Answer.{told, toldFetched};
-ghost use Rattle.element.specs.Mux.{slotFrom, slotOf, payloadLengthInfo};
-ghost use Rattle.element.specs.Parts.{toldSpanned, whySpanned, toldMeasured};
+ghost use Rattle.kernel.specs.Reading.{Sound};
+ghost use Rattle.kernel.specs.Answer.{toldFetched};
+ghost use Rattle.kernel.specs.Promises.{Tells};
+ghost use Rattle.element.specs.Mux.{slotOf, muxSlotLengthBytes};
+ghost use Rattle.element.specs.Parts.{toldSpanned, whySpanned};
+ghost use Rattle.element.specs.Promises.{LengthsPromise};
 use crate::Lengths;
 use crate::Measured;
 use crate::Spanned;
@@ -34,7 +34,7 @@ fn why_spanned(f: Spanned) -> Refusal
 // Length bytes, added until one is not 255. An element has fewer than 8,192.
 fn slot_bytes(el: &[u8], c: Cursor) -> Fetched
     requires { ⌜ Sound (now el) (c .at) (c .read) ⌝ }
-    ensures { λ r. ⌜ toldFetched r ≡ told (run (now (el .entry)) (slotFrom 8192 0) (c .at) (c .read)) ⌝ }
+    ensures { λ r. ⌜ Tells toldFetched (now (el .entry)) muxSlotLengthBytes (c .at) (c .read) r ⌝ }
 {
     let mut cur = c;
     let mut v: u32 = 0;
@@ -56,7 +56,7 @@ fn slot_bytes(el: &[u8], c: Cursor) -> Fetched
 
 fn slot_bits(el: &[u8], kind: u32, slot: u32, c: Cursor) -> Spanned
     requires { ⌜ Sound (now el) (c .at) (c .read) ⌝ }
-    ensures { λ r. ⌜ toldSpanned r ≡ told (run (now (el .entry)) (slotOf kind slot) (c .at) (c .read)) ⌝ }
+    ensures { λ r. ⌜ Tells toldSpanned (now (el .entry)) (slotOf kind slot) (c .at) (c .read) r ⌝ }
 {
     if kind == 0 {
         let a = slot_bytes(el, c);
@@ -68,9 +68,10 @@ fn slot_bits(el: &[u8], kind: u32, slot: u32, c: Cursor) -> Spanned
     Spanned::Value(8 * (slot as usize + 20), c)
 }
 
+// The slots of n streams; zeros stand where there is none.
 pub fn lengths_of(el: &[u8], streams: [Stream; 16], n: usize, c: Cursor) -> Lengths
     requires { ⌜ (n ≤ 16) × Sound (now el) (c .at) (c .read) ⌝ }
-    ensures { λ r. ⌜ toldMeasured (take n (r .widths)) (r .verdict) ≡ told (run (now (el .entry)) (payloadLengthInfo [] (take n streams)) (c .at) (c .read)) ⌝ }
+    ensures { λ r. ⌜ LengthsPromise streams n (now (el .entry)) (c .at) (c .read) r ⌝ }
 {
     let mut cur = c;
     let mut widths: [usize; 16] = [0; 16];
@@ -82,7 +83,7 @@ pub fn lengths_of(el: &[u8], streams: [Stream; 16], n: usize, c: Cursor) -> Leng
             let x = why_spanned(got);
             return Lengths {
                 verdict: Measured::Refused(x),
-                widths: widths,
+                widths: [0; 16],
             };
         };
         widths[i] = w;

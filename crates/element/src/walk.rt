@@ -7,9 +7,9 @@ ghost use lib.ListN.{length, take};
 ghost use lib.Seq.{sets};
 ghost use Rattle.kernel.specs.Reading.{Sound};
 ghost use Rattle.kernel.specs.Answer.{toldFetched};
-ghost use Rattle.kernel.specs.Element.{walk};
 ghost use Rattle.element.specs.Mux.{payloadMux, subframe, subframes, otherData, byteAlignment, rest};
-ghost use Rattle.element.specs.Parts.{whyMeasured, Goes, PassesOver, Items, fronted, frontNumbers, frontCount, verdictFrom, mapFrom};
+ghost use Rattle.element.specs.Parts.{whyMeasured, Goes, PassesOver, Items, frontNumbers, frontCount};
+ghost use Rattle.element.specs.Promises.{FinishPromise};
 use crate::Measured;
 use crate::Verdict;
 use crate::slots::lengths_of;
@@ -254,8 +254,7 @@ pub fn finish(
     map: &mut [u32],
 ) -> Verdict
     requires { ⌜ (n ≤ 16) × (count ≤ 64) × (4368 ≤ length (now map)) × (1 ≤ c .at) × Sound (now el) (c .at) (c .read) ⌝ }
-    ensures verdict { λ r. ⌜ r ≡ verdictFrom sent (8 * length (now (el .entry))) (fronted sent (c .at) (walk (now (el .entry)) (rest count (take n streams) other bits) (c .at) (c .read))) ⌝ }
-    ensures map { λ r. ⌜ now (map .exit) ≡ mapFrom (now (map .entry)) (8 * length (now (el .entry))) (fronted sent (c .at) (walk (now (el .entry)) (rest count (take n streams) other bits) (c .at) (c .read))) ⌝ }
+    ensures { λ r. ⌜ FinishPromise sent (now (el .entry)) (rest count (take n streams) other bits) (c .at) (c .read) (now (map .entry)) r (now (map .exit)) ⌝ }
 {
     let at = c.at;
     let k = front_count(sent);

@@ -1,4 +1,4 @@
--- The theorem of the claim in specs/Claims.antt, by computation.
+-- The theorem of each claim of specs/Claims.antt.
 use mathlib.Core.Path.{refl}
 use Rattle.kernel.specs.Bits.{bitAt, valueAt}
 use Rattle.kernel.specs.Reading.{_>>=_, _>>_, field, pass, here, choose, need, fit, onFit, run}
@@ -8,16 +8,30 @@ use Rattle.records.specs.Table.{streamsIn, tableOf}
 use Rattle.asc.specs.Values.{bytesFrom, latmGetValue}
 use Rattle.asc.specs.Asc.{objectType, anyType, frequency, channelConfiguration, unset, psExtension, psTail, sbrExtension, extensionType, syncExtension, tail, gaSpecificConfig, alone, audioSpecificConfig}
 use Rattle.config.specs.Mux.{windowed, configuration, frameLength, layer, layers, programs, muxHead, muxTail, streamMuxConfig}
-use Rattle.element.specs.Mux.{slotFrom, slotOf, payloadLengthInfo, payloadMux, subframe, subframes, otherData, byteAlignment, applied, useSameStreamMux, afterFlag, audioMuxElement, rest}
+use Rattle.element.specs.Mux.{slotFrom, muxSlotLengthBytes, slotOf, payloadLengthInfo, payloadMux, subframe, subframes, otherData, byteAlignment, applied, useSameStreamMux, afterFlag, audioMuxElement, rest}
 use Rattle.element.specs.Reply.{answer}
 use Rattle.sync.specs.Sync.{firstOf}
 use Rattle.listing.specs.Listing.{listedFrom, itemLines}
-use Rattle.listing.specs.Claims.{WorkedListing}
+use Rattle.listing.specs.Claims.{WorkedListing, LettersOfKinds, LetterOfRefusal, NothingIsLost, ListingIsWhole}
+use Rattle.listing.proofs.Digits.{all-said}
+use Rattle.listing.proofs.Frames.{listing-whole}
 
 pub worked-listing : WorkedListing
 unfolding listedFrom itemLines firstOf answer audioMuxElement afterFlag useSameStreamMux applied rest byteAlignment otherData subframes subframe payloadMux
-    payloadLengthInfo slotOf slotFrom streamMuxConfig muxTail muxHead programs layers layer frameLength configuration windowed
+    payloadLengthInfo slotOf muxSlotLengthBytes slotFrom streamMuxConfig muxTail muxHead programs layers layer frameLength configuration windowed
     audioSpecificConfig alone gaSpecificConfig tail syncExtension extensionType sbrExtension psTail psExtension unset channelConfiguration
     frequency anyType objectType latmGetValue bytesFrom allOf tableOf streamsIn tab follow walk next overFit withItem run onFit fit need choose here
     pass field _>>=_ _>>_ valueAt bitAt
 worked-listing = refl
+
+pub letters-of-kinds : LettersOfKinds
+letters-of-kinds = refl
+
+pub letter-of-refusal : LetterOfRefusal
+letter-of-refusal number refusal place count = refl
+
+pub nothing-is-lost : NothingIsLost
+nothing-is-lost = all-said
+
+pub listing-is-whole : ListingIsWhole
+listing-is-whole = listing-whole

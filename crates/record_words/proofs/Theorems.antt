@@ -1,5 +1,5 @@
 -- The theorem of each claim of specs/Claims.antt.
-use mathlib.Core.Path.{_≡_, refl}
+use mathlib.Core.Path.{_≡_, refl, sym, _∙_}
 use mathlib.Core.Bool.{Bool, true, false, cond, _&&_}
 use mathlib.Core.Logic.{_⊎_, inl, inr}
 use mathlib.Core.List.{List, _++_}
@@ -14,7 +14,7 @@ use Rattle.kernel.proofs.Tests.{both}
 use Rattle.records.specs.Blank.{noRecord}
 use Rattle.records.specs.Table.{streamsIn}
 use Rattle.record_words.specs.Words.{wordsOf, recordFrom, sameWords, recordIn}
-use Rattle.record_words.specs.Claims.{LaidIsFound, FoundHasTheWords, BlankIsRefused}
+use Rattle.record_words.specs.Claims.{LaidIsFound, FoundHasTheWords, BlankIsRefused, LaidOnce}
 use Rattle.record_words.proofs.Words.{length-words, found-record, same-ahead, same-are, is-record}
 
 pub laid-is-found : LaidIsFound
@@ -37,3 +37,6 @@ found-has-the-words w = found-by w _ refl
 pub blank-is-refused : BlankIsRefused
 unfolding allOf streamsIn
 blank-is-refused = refl
+
+pub laid-once : LaidOnce
+laid-once r words words₁ words₂ x y p q = (p .0 ∙ sym (q .0), p .1 ∙ sym (q .1))

@@ -1,6 +1,6 @@
 -- What is claimed of words. proofs/Theorems.antt has the theorem of each.
 use mathlib.Core.Path.{_≡_}
-use mathlib.Core.Bool.{false}
+use mathlib.Core.Bool.{Bool, false}
 use mathlib.Core.Logic.{_⊎_}
 use mathlib.Core.List.{List, _++_}
 use Prim.Native.Nat.{ℕ}
@@ -9,6 +9,7 @@ use Rattle.records.specs.declared.Record.{Record}
 use Rattle.records.specs.Blank.{noRecord}
 use Rattle.records.specs.Valid.{validOf}
 use Rattle.record_words.specs.Words.{wordsOf, recordIn}
+use Rattle.record_words.specs.Promises.{LayPromise}
 
 -- a record laid is found again, whatever stands behind it; an array has 16 places
 abbrev pub LaidIsFound : Type 0
@@ -21,3 +22,7 @@ FoundHasTheWords = (w : List ℕ) → (wordsOf (recordIn w) ≡ take 250 w) ⊎ 
 -- which 16 refuses
 abbrev pub BlankIsRefused : Type 0
 BlankIsRefused = validOf noRecord ≡ false
+
+-- the promise of `lay_record` allows one answer and one content of the words
+abbrev pub LaidOnce : Type 0
+LaidOnce = (r : Record) (words words₁ words₂ : List ℕ) (x y : Bool) → LayPromise r words x words₁ → LayPromise r words y words₂ → (x ≡ y) × (words₁ ≡ words₂)

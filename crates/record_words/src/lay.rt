@@ -1,10 +1,10 @@
 // A record's words, laid into words lent.
 ghost use mathlib.Core.Path.{_≡_};
 ghost use Prim.Native.Nat.{_+_, _≤_};
-ghost use lib.Dec.{leb};
 ghost use lib.ListN.{length};
 ghost use Rattle.kernel.specs.Lists.{Stored};
-ghost use Rattle.record_words.specs.Words.{freqChoice, freqNumber, formWords, streamWords, streamsWords, headWords, tailWords, wordsOf, laidIn};
+ghost use Rattle.record_words.specs.Words.{freqChoice, freqNumber, formWords, streamWords, streamsWords, headWords, tailWords, wordsOf};
+ghost use Rattle.record_words.specs.Promises.{LayPromise};
 use records::Form;
 use records::Freq;
 use records::Record;
@@ -147,8 +147,7 @@ fn lay_all(out: &mut [u32], r: Record) -> usize
 
 // Lays the words at the start, where there is room for 250.
 pub fn lay_record(out: &mut [u32], r: Record) -> bool
-    ensures room { λ x. ⌜ x ≡ leb 250 (length (now (out .entry))) ⌝ }
-    ensures words { λ x. ⌜ now (out .exit) ≡ laidIn (now (out .entry)) r ⌝ }
+    ensures { λ x. ⌜ LayPromise r (now (out .entry)) x (now (out .exit)) ⌝ }
 {
     if out.len() < 250 {
         return false;

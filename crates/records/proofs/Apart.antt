@@ -1,4 +1,4 @@
--- What it says of a configuration, a stream and a record that it is valid: the tests taken apart.
+-- What it says of a configuration, a stream and a record that it is valid: the tests taken apart, and put together.
 use mathlib.Core.Path.{_≡_, refl, ap}
 use mathlib.Core.Bool.{Bool, true, false, cond, _&&_, _||_}
 use mathlib.Core.List.{List}
@@ -6,8 +6,8 @@ use Prim.Native.Nat.{ℕ, _<_, _≤_}
 use native.Mathlib.Omega.{arith}
 use lib.Dec.{leb, ltb, eqb}
 use lib.ListN.{getD}
-use borrow.Author.Tests.{leb-true, eqb-true, le-leb, lt-leb, lt-ltb, le-ltb}
-use Rattle.kernel.proofs.Tests.{both, three, five, either, all-of}
+use borrow.Author.Tests.{leb-true, leb-false, ltb-true, ltb-false, eqb-true, le-leb, lt-leb, lt-ltb, le-ltb, eq-eqb}
+use Rattle.kernel.proofs.Tests.{both, three, five, either, all-of, all-yes}
 use Rattle.records.specs.declared.Freq.{Freq}
 use Rattle.records.specs.declared.Freq.the-variants.{Index, Hz}
 use Rattle.records.specs.declared.Form.{Form}
@@ -17,8 +17,7 @@ use Rattle.records.specs.declared.Stream.{Stream}
 use Rattle.records.specs.declared.Record.{Record}
 use Rattle.records.specs.Blank.{noStream}
 use Rattle.records.specs.Table.{streamsIn}
-use Rattle.records.specs.Valid.{validFreq, validForm, validConfig, validSlot, validStream, blankFreq, blankForm, blankStream}
-use Rattle.records.specs.Valid.{layersOk, streamsOk, headOk, tailOk, validOf}
+use Rattle.records.specs.Valid.{validFreq, validForm, validConfig, validSlot, validStream, blankFreq, blankForm, blankStream, layersOk, streamsOk, headOk, tailOk, validOf}
 
 -- ---- a configuration
 
@@ -46,6 +45,20 @@ config-ok version c p =
       form = q .4;
     }
 
+pub config-valid : (version : ℕ) (c : Config) → ConfigOk version c → validConfig version c ≡ true
+config-valid version c h =
+    rw (
+      le-leb 1 (c .core) (h .core .0),
+      le-leb (c .core) 4 (h .core .1),
+      le-leb 1 (c .channels) (h .channels .0),
+      le-leb (c .channels) 7 (h .channels .1),
+      le-leb (c .frame) 1 (h .frame),
+      eq-eqb (c .depends) 0 (h .depends),
+      eq-eqb (c .extension) 0 (h .extension),
+      h .freq,
+      h .form,
+    )
+
 -- ---- a stream
 
 pub data SlotOk (kind fullness slot : ℕ) : Type 0 where
@@ -63,6 +76,10 @@ slot-of kind fullness slot false e h =
 
 pub slot-ok : (kind fullness slot : ℕ) → validSlot kind fullness slot ≡ true → SlotOk kind fullness slot
 slot-ok kind fullness slot h = slot-of kind fullness slot (eqb kind 0 && leb fullness 255 && eqb slot 0) refl h
+
+pub slot-valid : (kind fullness slot : ℕ) → SlotOk kind fullness slot → validSlot kind fullness slot ≡ true
+slot-valid kind fullness slot (of-type-0 e l z) = rw (e, z, le-leb fullness 255 l)
+slot-valid kind fullness slot (of-type-1 e z l) = rw (e, z, le-leb slot 511 l)
 
 blank-freq : (x : Freq) → blankFreq x ≡ true → x ≡ Index 0
 blank-freq (Index i) h = ap Index (eqb-true i 0 h)
@@ -173,3 +190,51 @@ record-ok r h =
       streams = streams-sent (r .version) n (r .streams) (q .4) count;
       no-streams = streams-not (r .version) n (r .streams) (q .4);
     }
+
+-- a test, or what holds where it does not
+or-else : (t : Bool) (b : Bool) → (t ≡ false → b ≡ true) → (t || b) ≡ true
+or-else true b h = refl
+or-else false b h = h refl
+
+chosen-both : (t a b : Bool) → (t ≡ true → a ≡ true) → (t ≡ false → b ≡ true) → cond t a b ≡ true
+chosen-both true a b h g = h refl
+chosen-both false a b h g = g refl
+
+head-valid : (r : Record) → RecordOk r → headOk r ≡ true
+head-valid r h =
+    rw (
+      le-leb (r .version) 1 (h .version),
+      eq-eqb (r .variant) 0 (h .variant),
+      or-else (eqb (r .version) 1) (eqb (r .tara) 0) (λ e. eq-eqb (r .tara) 0 (h .tara e)),
+      eq-eqb (r .framing) 1 (h .framing),
+      le-leb (r .subframes) 63 (h .subframes),
+      le-leb (r .programs) 15 (h .programs),
+    )
+
+tail-valid : (r : Record) → RecordOk r → tailOk r ≡ true
+tail-valid r h =
+    rw (
+      le-leb (r .other) 1 (h .other),
+      or-else (eqb (r .other) 1) (eqb (r .bits) 0) (λ e. eq-eqb (r .bits) 0 (h .bits e)),
+      le-leb (r .checked) 1 (h .checked),
+      or-else (eqb (r .checked) 1) (eqb (r .crc) 0) (λ e. eq-eqb (r .crc) 0 (h .unchecked e)),
+      le-leb (r .crc) 255 (h .crc),
+    )
+
+layers-valid : (r : Record) → RecordOk r → layersOk (r .layers) (r .programs) ≡ true
+layers-valid r h =
+    all-yes 16 _ λ p l.
+    chosen-both (leb p (r .programs)) (leb (getD (r .layers) p 0) 7) (eqb (getD (r .layers) p 0) 0)
+    (λ e. le-leb (getD (r .layers) p 0) 7 (h .layers p (leb-true p (r .programs) e)))
+    (λ e. eq-eqb (getD (r .layers) p 0) 0 (h .no-layers p (leb-false p (r .programs) e) l))
+
+streams-valid : (r : Record) → RecordOk r → streamsOk (r .version) (streamsIn (r .layers) (r .programs) 16) (r .streams) ≡ true
+streams-valid r h =
+    let n = streamsIn (r .layers) (r .programs) 16 in
+    all-yes 16 _ λ i l.
+    chosen-both (ltb i n) (validStream (r .version) (getD (r .streams) i noStream)) (blankStream (getD (r .streams) i noStream))
+    (λ e. h .streams i (ltb-true i n e))
+    (λ e. rw (h .no-streams i (ltb-false i n e) l))
+
+pub record-valid : (r : Record) → RecordOk r → validOf r ≡ true
+record-valid r h = rw (head-valid r h, tail-valid r h, layers-valid r h, le-leb (streamsIn (r .layers) (r .programs) 16) 16 (h .count)) (streams-valid r h)

@@ -130,6 +130,6 @@ same-record-refl a =
       itself (a .bits),
       itself (a .checked),
       itself (a .crc),
-      all-yes 16 _ λ p. itself (getD (a .layers) p 0),
+      all-yes 16 _ λ p _. itself (getD (a .layers) p 0),
     )
-    (all-yes 16 _ λ i. same-stream-refl (getD (a .streams) i noStream))
+    (all-yes 16 _ λ i _. same-stream-refl (getD (a .streams) i noStream))

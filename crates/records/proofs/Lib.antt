@@ -2,3 +2,4 @@ pub mod Equal
 pub mod Tables
 pub mod Apart
 pub mod Theorems
+pub mod Contracts

@@ -1,2 +1,4 @@
 pub mod Rows
+pub mod Carried
 pub mod Theorems
+pub mod Contracts

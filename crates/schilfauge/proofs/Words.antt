@@ -1,9 +1,11 @@
 -- What the functions below the outer ones promise, as the words lent.
 use mathlib.Core.Path.{_≡_, refl, sym, ap, _∙_}
 use mathlib.Core.Bool.{Bool, true, false, cond}
-use mathlib.Core.List.{List}
+use mathlib.Core.List.{List, [], _∷_, _++_}
 use Prim.Native.Nat.{ℕ}
-use lib.ListN.{length, replicate}
+use lib.Dec.{eqb}
+use lib.ListN.{length, getD, replicate}
+use lib.Seq.{getD-append-seam}
 use lib.IntN.{ℤ}
 use mir.Val.{boolByte}
 use Rattle.kernel.specs.Bits.{bit}
@@ -11,7 +13,9 @@ use Rattle.kernel.specs.Element.{Answer, accepted, rejected}
 use Rattle.records.specs.declared.Record.{Record}
 use Rattle.records.specs.Valid.{validOf}
 use Rattle.records.specs.Table.{tableOf}
-use Rattle.record_words.specs.Words.{recordIn, laidIn}
+use Rattle.record_words.specs.Words.{wordsOf, recordIn, laidIn}
+use Rattle.record_words.proofs.Theorems.{laid-is-found}
+use Rattle.record_words.proofs.Words.{length-words}
 use Rattle.sync.specs.declared.Framed.{Framed}
 use Rattle.sync.specs.Sync.{framedOf}
 use Rattle.sync.specs.Sync as sync
@@ -32,6 +36,17 @@ byte-bit false = refl
 pub laid-held : (r : Record) → laidIn (replicate 251 1) r ≡ heldWords r
 unfolding laidIn
 laid-held r = refl
+
+-- the word behind those of a record
+word-behind : (b : List ℕ) → length b ≡ 250 → getD (b ++ (1 ∷ [])) 250 0 ≡ 1
+word-behind b n = rw n at (getD-append-seam b 1 [] 0)
+
+-- and is found so
+pub held-laid : (r : Record) → length (r .layers) ≡ 16 → length (r .streams) ≡ 16 → heldIn (heldWords r) ≡ record { present = true; config = r }
+held-laid r k l =
+    let e = word-behind (wordsOf r) (length-words r k l) in
+    let f = laid-is-found r (1 ∷ []) k l in
+    λ i. record { present = eqb (e i) 1; config = f i }
 
 kept-sent : (t : Bool) (w : List ℕ) (r : Record) (h : Held)
     → cond t (heldWords (cond t (record { present = true; config = r }) h .config)) w ≡ cond t (heldWords r) w

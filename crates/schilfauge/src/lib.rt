@@ -1,13 +1,9 @@
 // The library for callers in C and Rust: numbers, slices and lent arrays. Where something is refused the answer is the refusal's number, else 0.
 ghost use mathlib.Core.Path.{_≡_};
-ghost use lib.ListN.{length};
-ghost use Rattle.sync.specs.Sync.{huntOf, framedOf};
-ghost use Rattle.sync.specs.Sync as sync;
-ghost use Rattle.element.specs.Reply.{verdictOf, mapAfter};
 ghost use Rattle.records.specs.Table.{tableOf};
 ghost use Rattle.record_words.specs.Words.{recordIn};
-ghost use Rattle.writer.specs.Write.{writtenOf, outAfter};
-ghost use Rattle.schilfauge.specs.Lent.{huntNumber, foundAfter, heldIn, heldWords, answerIn, heldAfter, keptAfter, readNumber, answerWords, rowNumber, streamAt, rowWords, rowAt, rowAfter, sentIn, writeNumber, writtenAfter, frameNumber, framedAfter};
+ghost use Rattle.schilfauge.specs.Lent.{heldIn, heldWords, keptAfter, readNumber, answerWords, streamAt, rowWords, rowAt, sentIn};
+ghost use Rattle.schilfauge.specs.Promises.{HuntPromise, ReadPromise, RowPromise, WritePromise, FramePromise};
 use element::Held;
 use element::Verdict;
 use element::read;
@@ -29,8 +25,7 @@ use writer::write;
 // The first frame at or after the start: its place, and the bytes of its element.
 #[no_mangle]
 pub extern "C" fn schilf_hunt(capture: &[u8], start: usize, found: &mut [usize; 2]) -> usize
-    ensures number { λ r. ⌜ r ≡ huntNumber (huntOf (now (capture .entry)) start) ⌝ }
-    ensures found { λ r. ⌜ now (found .exit) ≡ foundAfter (now (found .entry)) (huntOf (now (capture .entry)) start) ⌝ }
+    ensures { λ r. ⌜ HuntPromise (now (capture .entry)) start (now (found .entry)) r (now (found .exit)) ⌝ }
 {
     match hunt(capture, start) {
         Hunted::Found(place, size) => {
@@ -104,10 +99,7 @@ pub extern "C" fn schilf_read(
     map: &mut [u32],
     told: &mut [usize; 4],
 ) -> usize
-    ensures number { λ r. ⌜ r ≡ readNumber (verdictOf (answerIn (now (element .entry)) (now (held .entry)) (length (now (map .entry))))) ⌝ }
-    ensures held { λ r. ⌜ now (held .exit) ≡ heldAfter (now (held .entry)) (answerIn (now (element .entry)) (now (held .entry)) (length (now (map .entry)))) ⌝ }
-    ensures map { λ r. ⌜ now (map .exit) ≡ mapAfter (now (map .entry)) (answerIn (now (element .entry)) (now (held .entry)) (length (now (map .entry)))) ⌝ }
-    ensures told { λ r. ⌜ now (told .exit) ≡ answerWords (verdictOf (answerIn (now (element .entry)) (now (held .entry)) (length (now (map .entry))))) ⌝ }
+    ensures { λ r. ⌜ ReadPromise (now (element .entry)) (now (held .entry)) (now (map .entry)) r (now (held .exit)) (now (map .exit)) (now (told .exit)) ⌝ }
 {
     let before = held_in(held);
     let reply = read(element, before, map);
@@ -169,8 +161,7 @@ pub extern "C" fn schilf_row(
     layer: u32,
     row: &mut [i64; 9],
 ) -> usize
-    ensures number { λ r. ⌜ r ≡ rowNumber (recordIn (now (words .entry))) ⌝ }
-    ensures row { λ r. ⌜ now (row .exit) ≡ rowAfter (now (row .entry)) (recordIn (now (words .entry))) program layer ⌝ }
+    ensures { λ r. ⌜ RowPromise (recordIn (now (words .entry))) program layer (now (row .entry)) r (now (row .exit)) ⌝ }
 {
     let r = record_in(words);
     if !valid(r) {
@@ -191,9 +182,7 @@ pub extern "C" fn schilf_write(
     out: &mut [u8],
     written: &mut usize,
 ) -> usize
-    ensures number { λ r. ⌜ r ≡ writeNumber (writtenOf (sentIn (now (words .entry)) send (now (lengths .entry)) (now (payload .entry)) (now (other .entry))) (length (now (out .entry)))) ⌝ }
-    ensures bytes { λ r. ⌜ now (out .exit) ≡ outAfter (sentIn (now (words .entry)) send (now (lengths .entry)) (now (payload .entry)) (now (other .entry))) (now (out .entry)) (writtenOf (sentIn (now (words .entry)) send (now (lengths .entry)) (now (payload .entry)) (now (other .entry))) (length (now (out .entry)))) ⌝ }
-    ensures written { λ r. ⌜ now (written .exit) ≡ writtenAfter (now (written .entry)) (writtenOf (sentIn (now (words .entry)) send (now (lengths .entry)) (now (payload .entry)) (now (other .entry))) (length (now (out .entry)))) ⌝ }
+    ensures { λ r. ⌜ WritePromise (sentIn (now (words .entry)) send (now (lengths .entry)) (now (payload .entry)) (now (other .entry))) (now (out .entry)) (now (written .entry)) r (now (out .exit)) (now (written .exit)) ⌝ }
 {
     let r = record_in(words);
     match write(r, send, lengths, payload, other, out) {
@@ -208,9 +197,7 @@ pub extern "C" fn schilf_write(
 // The frame of an element, laid into `out`; the bytes of it.
 #[no_mangle]
 pub extern "C" fn schilf_frame(element: &[u8], out: &mut [u8], written: &mut usize) -> usize
-    ensures number { λ r. ⌜ r ≡ frameNumber (framedOf (now (element .entry)) (length (now (out .entry)))) ⌝ }
-    ensures bytes { λ r. ⌜ now (out .exit) ≡ sync.outAfter (now (element .entry)) (now (out .entry)) (framedOf (now (element .entry)) (length (now (out .entry)))) ⌝ }
-    ensures written { λ r. ⌜ now (written .exit) ≡ framedAfter (now (written .entry)) (framedOf (now (element .entry)) (length (now (out .entry)))) ⌝ }
+    ensures { λ r. ⌜ FramePromise (now (element .entry)) (now (out .entry)) (now (written .entry)) r (now (out .exit)) (now (written .exit)) ⌝ }
 {
     match frame(element, out) {
         Framed::Done(n) => {

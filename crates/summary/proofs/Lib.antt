@@ -1,3 +1,7 @@
--- Laws that the proofs of several functions share.
+-- Laws that the proofs of several functions share, and the theorems.
 pub mod Signs
 pub mod Texts
+pub mod Contracts
+pub mod Streams
+pub mod Columns
+pub mod Theorems

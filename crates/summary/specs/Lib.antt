@@ -1,3 +1,4 @@
--- The summary, and what its functions promise on the way.
+-- The summary, what its functions promise on the way, and what is claimed of it.
 pub mod Summary
 pub mod Replied
+pub mod Claims

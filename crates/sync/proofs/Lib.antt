@@ -4,3 +4,5 @@ pub mod First
 pub mod Frames
 pub mod Written
 pub mod Theorems
+pub mod Worked
+pub mod Contracts

@@ -7,17 +7,18 @@ use Prim.Native.Nat.{ℕ, _+_, _-_, _≤_, _<_}
 use native.Mathlib.Omega.{arith}
 use borrow.Author.Tests.{ltb-true, ltb-false, le-leb}
 use lib.Dec.{ltb}
-use lib.ListN.{length, take, drop}
-use lib.Seq.{take-append-seam}
+use lib.ListN.{length, take, drop, length-append, length-drop}
+use lib.Seq.{take-append-seam, drop-at}
 use Rattle.sync.specs.declared.Hunted.{Hunted}
 use Rattle.sync.specs.declared.Hunted.the-variants.{Found, Refused}
 use Rattle.sync.specs.declared.Framed.the-variants as framed
 use Rattle.sync.specs.Sync.{sizeAt, frameAt, firstOf, huntOf, frameOf, outAfter}
 use Rattle.kernel.specs.Answer.{unread}
-use Rattle.sync.specs.Claims.{StandsFirst, FoundIsFirst, FirstIsFound, RefusedIsNone, ElementIsInside, WrittenIsFound, WrittenIsFoundBefore, FramedOnce}
+use Rattle.sync.specs.Claims.{StandsFirst, FoundIsFirst, FirstIsFound, RefusedIsNone, ElementIsInside, WrittenIsFound, RightIsFramed, RefusalsAreExact, BytesBehindStay, RefusalKeepsOutput, FramedOnce}
 use Rattle.sync.proofs.Places.{hunt-is}
 use Rattle.sync.proofs.First.{past-end, inside, Says, first-says, first-is}
-use Rattle.sync.proofs.Written.{framed-fits, found-alone, found-before}
+use Rattle.sync.proofs.Frames.{with-room, framed-fits, refused-exactly}
+use Rattle.sync.proofs.Written.{found}
 
 -- what an answer says of the capture from the start on
 abbrev Tells : List ℕ → ℕ → Hunted → Type 0
@@ -66,14 +67,27 @@ element-is-inside s start p n e =
     (t .1 .after, omega (arith, i, t .2), h, t .0, rw (le-leb _ _ h))
 
 pub written-is-found : WrittenIsFound
-written-is-found el out n e =
-    let f = rw e at (framed-fits el (length out)) in
-    rw (written el out n (f .0)) (found-alone el (f .1) (f .2))
+written-is-found before el out n out′ more (e, laid) f =
+    let h = rw (sym e) at (framed-fits el (length out)) in
+    rw (laid, written el out n (h .0)) (found before el more (h .1) (h .2) f)
 
-pub written-is-found-before : WrittenIsFoundBefore
-written-is-found-before el out n e next more few most =
+pub right-is-framed : RightIsFramed
+right-is-framed = with-room
+
+pub refusals-are-exact : RefusalsAreExact
+refusals-are-exact = refused-exactly
+
+pub bytes-behind-stay : BytesBehindStay
+bytes-behind-stay el out n e =
     let f = rw e at (framed-fits el (length out)) in
-    rw (written el out n (f .0)) (found-before el next more (f .1) (f .2) few most)
+    let l : length (frameOf el) ≡ n = omega arith in
+    rw e (
+      simp (length-append, length-drop) (omega (arith, l, f)),
+      drop-at (frameOf el) (drop n out) n l,
+    )
+
+pub refusal-keeps-output : RefusalKeepsOutput
+refusal-keeps-output el out x e = ap (outAfter el out) e
 
 pub framed-once : FramedOnce
-framed-once el out out₁ out₂ x y p h q k = (p ∙ sym q, h ∙ ap (outAfter el out) (p ∙ sym q) ∙ sym k)
+framed-once el out out₁ out₂ x y p q = let e = p .0 ∙ sym (q .0) in (e, p .1 ∙ ap (outAfter el out) e ∙ sym (q .1))

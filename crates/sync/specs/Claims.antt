@@ -1,16 +1,18 @@
 -- What is claimed of the sync layer. proofs/Theorems.antt has the theorem of each.
 use mathlib.Core.Path.{_≡_}
 use mathlib.Core.Bool.{true, false}
-use mathlib.Core.List.{List, _++_}
+use mathlib.Core.List.{List, [], _++_}
 use mathlib.Core.Logic.{_⊎_}
 use Prim.Native.Nat.{ℕ, _+_, _≤_, _<_}
 use lib.ListN.{length, take, drop}
+use Rattle.kernel.specs.Exactly.{Exactly}
+use Rattle.kernel.specs.Answer.{unread}
 use Rattle.kernel.specs.declared.Refusal.{Refusal}
 use Rattle.sync.specs.declared.Hunted.the-variants.{Found, Refused}
 use Rattle.sync.specs.declared.Framed.{Framed}
 use Rattle.sync.specs.declared.Framed.the-variants as framed
 use Rattle.sync.specs.Sync.{sizeAt, frameAt, huntOf, elementAt, frameOf, framedOf, outAfter}
-use Rattle.kernel.specs.Answer.{unread}
+use Rattle.sync.specs.Promises.{FramePromise}
 
 -- a frame stands at p, and none at any place from the start up to there
 pub record StandsFirst (s : List ℕ) (start p : ℕ) : Type 0 where
@@ -36,22 +38,48 @@ abbrev pub ElementIsInside : Type 0
 ElementIsInside = (s : List ℕ) (start p n : ℕ) → huntOf s start ≡ Found p n
     → (start ≤ p) × (1 ≤ n) × (p + 3 + n ≤ length s) × (length s ≤ 65536) × (elementAt s p n ≡ take n (drop (p + 3) s))
 
--- a hunt from 0 finds this element at the start
-abbrev pub FoundAtStart : List ℕ → List ℕ → Type 0
-FoundAtStart s el = (huntOf s 0 ≡ Found 0 (length el)) × (elementAt s 0 (length el) ≡ el)
+-- a frame of 1 to 8,191 bytes of element, and anything behind it
+pub record Frame (s : List ℕ) : Type 0 where
+  pub element : List ℕ
+  pub rest : List ℕ
+  pub some : 1 ≤ length element
+  pub few : length element ≤ 8191
+  pub stands : s ≡ frameOf element ++ rest
 
--- so it does over what was written for an element,
+-- a hunt from p finds this element there
+abbrev pub FoundAt : List ℕ → ℕ → List ℕ → Type 0
+FoundAt s p el = (huntOf s p ≡ Found p (length el)) × (elementAt s p (length el) ≡ el)
+
+-- so it does over what was written for an element, behind any bytes, at the end of a capture or before another frame
 abbrev pub WrittenIsFound : Type 0
-WrittenIsFound = (el out : List ℕ) (n : ℕ) → framedOf el (length out) ≡ framed.Done n → FoundAtStart (take n (outAfter el out (framed.Done n))) el
+WrittenIsFound = (before el out : List ℕ) (n : ℕ) (out′ more : List ℕ) → FramePromise el out (framed.Done n) out′ → (more ≡ []) ⊎ Frame more
+    → let s = before ++ (take n out′ ++ more) in length s ≤ 65536 → FoundAt s (length before) el
 
--- and where another frame follows
-abbrev pub WrittenIsFoundBefore : Type 0
-WrittenIsFoundBefore = (el out : List ℕ) (n : ℕ) → framedOf el (length out) ≡ framed.Done n
-    → (next more : List ℕ) → 1 ≤ length next → length next ≤ 8191
-    → let s = take n (outAfter el out (framed.Done n)) ++ (frameOf next ++ more) in length s ≤ 65536 → FoundAtStart s el
+-- every element of 1 to 8,191 bytes is put into a frame where there is room
+abbrev pub RightIsFramed : Type 0
+RightIsFramed = (el : List ℕ) (room : ℕ) → 1 ≤ length el → length el ≤ 8191 → 3 + length el ≤ room → framedOf el room ≡ framed.Done (3 + length el)
+
+-- and every other is refused: by 2 for its length, else by 19 for the room
+module _ (el : List ℕ) (room : ℕ) where
+  abbrev pub Gives : ℕ → Type 0
+  Gives m = framedOf el room ≡ framed.Refused (unread m)
+
+  pub record RefusedExactly : Type 0 where
+    pub for-2 : Exactly (Gives 2) ((length el ≡ 0) ⊎ (8191 < length el))
+    pub for-19 : Exactly (Gives 19) ((1 ≤ length el) × (length el ≤ 8191) × (room < 3 + length el))
+
+abbrev pub RefusalsAreExact : Type 0
+RefusalsAreExact = (el : List ℕ) (room : ℕ) → RefusedExactly el room
+
+-- what stood behind the frame stays, and a refusal leaves the whole output as it stood
+abbrev pub BytesBehindStay : Type 0
+BytesBehindStay = (el out : List ℕ) (n : ℕ) → framedOf el (length out) ≡ framed.Done n
+    → let out′ = outAfter el out (framedOf el (length out)) in (length out′ ≡ length out) × (drop n out′ ≡ drop n out)
+
+abbrev pub RefusalKeepsOutput : Type 0
+RefusalKeepsOutput = (el out : List ℕ) (x : Refusal) → framedOf el (length out) ≡ framed.Refused x → outAfter el out (framedOf el (length out)) ≡ out
 
 -- the promise of `frame` allows one answer and one output
 abbrev pub FramedOnce : Type 0
 FramedOnce = (el out out₁ out₂ : List ℕ) (x y : Framed)
-    → x ≡ framedOf el (length out) → out₁ ≡ outAfter el out x → y ≡ framedOf el (length out) → out₂ ≡ outAfter el out y
-    → (x ≡ y) × (out₁ ≡ out₂)
+    → FramePromise el out x out₁ → FramePromise el out y out₂ → (x ≡ y) × (out₁ ≡ out₂)

@@ -2,8 +2,9 @@
 ghost use mathlib.Core.Path.{_≡_};
 ghost use Prim.Native.Nat.{_+_, _≤_};
 ghost use lib.Dec.{leb};
-ghost use lib.ListN.{length, getD};
-ghost use Rattle.sync.specs.Sync.{marked, sizeAt, frameAt, huntOf, elementAt, framedOf, outAfter};
+ghost use lib.ListN.{getD};
+ghost use Rattle.sync.specs.Sync.{marked, sizeAt, frameAt, huntOf, elementAt};
+ghost use Rattle.sync.specs.Promises.{FramePromise};
 use kernel::Refusal;
 use kernel::lay;
 use kernel::unread;
@@ -105,8 +106,7 @@ pub fn element_at(capture: &[u8], place: usize, size: usize) -> &[u8]
 
 // Lays the frame of an element at the start of `out`.
 pub fn frame(el: &[u8], out: &mut [u8]) -> Framed
-    ensures reply { λ r. ⌜ r ≡ framedOf (now (el .entry)) (length (now (out .entry))) ⌝ }
-    ensures bytes { λ r. ⌜ now (out .exit) ≡ outAfter (now (el .entry)) (now (out .entry)) r ⌝ }
+    ensures { λ r. ⌜ FramePromise (now (el .entry)) (now (out .entry)) r (now (out .exit)) ⌝ }
 {
     let n = el.len();
     if n == 0 {

@@ -1,3 +1,5 @@
--- Laws that the proofs of several functions share.
+-- Laws that the proofs of several functions share, and the theorems.
 pub mod Figures
 pub mod Words
+pub mod Theorems
+pub mod Contracts

@@ -1,3 +1,4 @@
--- Text in bytes, and the refusals in words.
+-- Text in bytes, the refusals in words, and what is claimed of numbers.
 pub mod Text
 pub mod Words
+pub mod Claims

@@ -66,7 +66,7 @@ slot-fits : (s : Stream) (n : ℕ) → (s .kind ≡ 0) ⊎ (n ≡ s .slot + 20) 
 slot-fits s n (inl e) = rw (eq-eqb (s .kind) 0 e)
 slot-fits s n (inr e) = or-right (eqb (s .kind) 0) (eqb n (s .slot + 20)) (eq-eqb n (s .slot + 20) e)
 
-next-slot : (ns : List ℕ) (i : ℕ) → getD (drop 1 ns) i 0 ≡ getD ns (suc i) 0
+pub next-slot : (ns : List ℕ) (i : ℕ) → getD (drop 1 ns) i 0 ≡ getD ns (suc i) 0
 next-slot [] i = refl
 next-slot (n ∷ ns) i = refl
 

@@ -1,6 +1,6 @@
 -- What stands in the items of what is written: the payload, and other data.
 use mathlib.Core.Path.{_≡_, refl, sym, _∙_}
-use mathlib.Core.Bool.{Bool, cond}
+use mathlib.Core.Bool.{Bool, false, cond}
 use mathlib.Core.List.{List, [], _∷_, _++_, append-assoc}
 use Prim.Native.Nat.{ℕ, zero, suc, _+_, _-_, _*_, _≤_}
 use native.Mathlib.Omega.{arith}
@@ -10,7 +10,7 @@ use lib.Seq.{take-append-seam, drop-append-seam, take-add, length-take-le, drop-
 use Rattle.kernel.specs.Bits.{unpack}
 use Rattle.kernel.proofs.Held.{length-unpack, unpack-append}
 use Rattle.records.specs.declared.Stream.{Stream}
-use Rattle.element.specs.Mux.{kindP, kindO}
+use Rattle.element.specs.Mux.{kindL, kindP}
 use Rattle.writer.specs.Written.{Piece, bitsIn, itemsAt, payloadPieces, sumOf, subframePieces}
 use Rattle.writer.specs.Claims.{contentsOf, widthsOf, widths}
 use Rattle.writer.proofs.TripElement.{sum-split}
@@ -70,10 +70,11 @@ payload-widths (suc k) i ns payload l =
     let d : length (drop n payload) ≡ length payload - n = length-drop n payload in
     rw (e, payload-widths k (i + 1) (drop 1 ns) (drop n payload) (omega (arith, d)))
 
-payload-other : (k i : ℕ) (ns payload : List ℕ) → keptBits kindO (payloadPieces i k ns payload) ≡ []
+-- no payload is of another kind
+payload-none : (kind : ℕ) → eqb kindP kind ≡ false → (k i : ℕ) (ns payload : List ℕ) → keptBits kind (payloadPieces i k ns payload) ≡ []
 unfolding keptBits payloadPieces
-payload-other zero i ns payload = refl
-payload-other (suc k) i ns payload = payload-other k (i + 1) (drop 1 ns) (drop (getD ns 0 0) payload)
+payload-none kind e zero i ns payload = refl
+payload-none kind e (suc k) i ns payload = rw e (payload-none kind e k (i + 1) (drop 1 ns) (drop (getD ns 0 0) payload))
 
 -- two parts of the widths
 widths-split : (a b : ℕ) (ns : List ℕ) → widths (a + b) ns ≡ widths a ns ++ widths b (drop a ns)
@@ -116,13 +117,14 @@ module _ (ss : List Stream) where
         widths-split k (n * k) ns,
       )
 
-  pub slots-other : (n : ℕ) (ns payload : List ℕ) → keptBits kindO (subframePieces n ss ns payload) ≡ []
+  pub slots-none : (kind : ℕ) → eqb kindL kind ≡ false → eqb kindP kind ≡ false → (n : ℕ) (ns payload : List ℕ) → keptBits kind (subframePieces n ss ns payload) ≡ []
   unfolding keptBits subframePieces
-  slots-other zero ns payload = refl
-  slots-other (suc n) ns payload =
+  slots-none kind l p zero ns payload = refl
+  slots-none kind l p (suc n) ns payload =
       let k = length ss in
       rw (
-        kept-append kindO (payloadPieces 0 k ns payload) (subframePieces n ss (drop k ns) (drop (sumOf k ns) payload)),
-        payload-other k 0 ns payload,
-        slots-other n (drop k ns) (drop (sumOf k ns) payload),
+        l,
+        kept-append kind (payloadPieces 0 k ns payload) (subframePieces n ss (drop k ns) (drop (sumOf k ns) payload)),
+        payload-none kind p k 0 ns payload,
+        slots-none kind l p n (drop k ns) (drop (sumOf k ns) payload),
       )

@@ -8,5 +8,9 @@ pub mod Rows
 pub mod Subframes
 pub mod Parts
 pub mod Answers
+pub mod Exact
+pub mod Back
+pub mod Said
 pub mod Theorems
 pub mod Worked
+pub mod Contracts

@@ -10,7 +10,7 @@ use lib.ListN.{length, getD, take, drop, length-drop}
 use lib.Seq.{length-take-le, append-snoc, drop-drop}
 use Rattle.kernel.specs.declared.Window.the-variants.{Open}
 use Rattle.kernel.specs.Bits.{bitsOf, unpack}
-use Rattle.kernel.specs.Reading.{give, _>>=_, _>>_}
+use Rattle.kernel.specs.Reading.{give}
 use Rattle.kernel.specs.Element.{done, closed, fields, passed}
 use Rattle.kernel.specs.Trip.{Reads}
 use Rattle.kernel.proofs.Bits.{length-bitsOf}
@@ -21,7 +21,7 @@ use Rattle.records.specs.declared.Stream.{Stream}
 use Rattle.records.specs.declared.Record.{Record}
 use Rattle.config.specs.Mux.{streamMuxConfig, muxBits}
 use Rattle.element.specs.declared.Held.{Held}
-use Rattle.element.specs.Mux.{kindU, kindC, kindL, kindO, slotFrom, slotOf, payloadLengthInfo, payloadMux, subframe, subframes, otherData, byteAlignment, rest, applied, usable, useSameStreamMux, afterFlag, audioMuxElement, streamsOf}
+use Rattle.element.specs.Mux.{kindU, kindC, kindL, kindO, slotFrom, muxSlotLengthBytes, slotOf, payloadLengthInfo, payloadMux, subframe, subframes, otherData, byteAlignment, rest, applied, usable, useSameStreamMux, afterFlag, audioMuxElement, streamsOf}
 use Rattle.writer.specs.Written.{Piece, piece, bitsIn, onesBits, lengthBits, slotBits, lengthsBits, payloadPieces, sumOf, subframePieces, otherPieces, alignment}
 use Rattle.writer.specs.Write.{slotFits, rowFits, slotsFit}
 use Rattle.writer.specs.Claims.{widths}
@@ -42,7 +42,7 @@ ones-trip (suc k) (suc f) v r {at} h l =
     rw (append-assoc (bitsOf 8 255) (onesBits k) (bitsOf 8 r), e) (reads-on 8 255 _ (omega arith) (reads-yes _ refl (ones-trip k f (v + 255) r (omega arith) l)))
 
 slot-trip : (s : Stream) (n : ℕ) {at : ℕ} → slotFits s n ≡ true → n ≤ 8191 → Reads Open at (slotOf (s .kind) (s .slot)) (slotBits (s .kind) n) (8 * n)
-unfolding slotOf lengthBits
+unfolding slotOf muxSlotLengthBytes lengthBits
 slot-trip s n h l =
     reads-maybe (eqb (s .kind) 0) (8 * (s .slot + 20))
     (λ e. let q : 8 * (0 + 255 * (n / 255) + n % 255) ≡ 8 * n = omega arith in

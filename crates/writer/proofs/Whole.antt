@@ -4,15 +4,17 @@ use mathlib.Core.Bool.{Bool, true, false, cond}
 use mathlib.Core.List.{List, [], _∷_, _++_, append-nil, append-assoc}
 use mathlib.Core.Logic.{_⊎_, inl, inr}
 use Prim.Native.Nat.{ℕ, _+_, _-_, _*_, _/_, _%_, _≤_}
+use native.Mathlib.Nat.{mod-eq-of-lt}
 use native.Mathlib.Omega.{arith}
 use borrow.Author.Tests.{ltb-false, eqb-true, le-ltb, ne-eqb}
 use lib.Dec.{eqb, ltb}
 use lib.ListN.{length, take, length-append}
+use lib.Pow.{pow-pos}
 use lib.Seq.{take-length}
-use Rattle.kernel.specs.Bits.{bit, bitsOf, unpack, pack}
+use Rattle.kernel.specs.Bits.{bit, bitsOf, number, unpack, pack}
 use Rattle.kernel.specs.Element.{Item, accepted, rejected, Answer as Read, countOf, read, fields, passed, closed}
 use Rattle.kernel.specs.Trip.{Accepts}
-use Rattle.kernel.proofs.Bits.{length-bitsOf}
+use Rattle.kernel.proofs.Bits.{length-bitsOf, number-bitsOf}
 use Rattle.kernel.proofs.Held.{length-pack, unpack-pack}
 use Rattle.kernel.proofs.Tests.{both}
 use Rattle.kernel.proofs.Trip.{packed-reads}
@@ -21,7 +23,7 @@ use Rattle.records.specs.Valid.{validOf}
 use Rattle.config.specs.Mux.{muxBits}
 use Rattle.config.proofs.Theorems.{record-reads-back}
 use Rattle.element.specs.declared.Held.{Held}
-use Rattle.element.specs.Mux.{kindU, kindC, kindP, kindO, usable, audioMuxElement, streamsOf}
+use Rattle.element.specs.Mux.{kindU, kindC, kindP, kindO, kindA, usable, audioMuxElement, streamsOf}
 use Rattle.element.specs.Reply.{answer}
 use Rattle.writer.specs.declared.Written.{Written}
 use Rattle.writer.specs.declared.Written.the-variants.{Done, Refused}
@@ -31,12 +33,12 @@ use Rattle.writer.specs.Sizes.{lengthBytes, frontBits}
 use Rattle.writer.specs.Claims.{widths, Typed, ReadsBack}
 use Rattle.writer.proofs.Pieces.{bits-append, Spelt}
 use Rattle.writer.proofs.TripElement.{lastPieces, held-trip, sent-trip}
-use Rattle.writer.proofs.Contents.{keptBits, keptWidths, contents-kept, widths-kept, kept-append, kept-widths-append, slots-kept, slots-widths, slots-other}
+use Rattle.writer.proofs.Contents.{keptBits, keptWidths, contents-kept, widths-kept, kept-append, kept-widths-append, slots-kept, slots-widths, slots-none}
 use Rattle.writer.proofs.Lengths.{slots-length, other-length}
 
 -- ---- what an answer says
 
-cond-says : {A : Type 0} (P : A → Type 0) (b : Bool) (x y : A) → (b ≡ true → P x) → (b ≡ false → P y) → P (cond b x y)
+pub cond-says : {A : Type 0} (P : A → Type 0) (b : Bool) (x y : A) → (b ≡ true → P x) → (b ≡ false → P y) → P (cond b x y)
 cond-says P true x y f g = f refl
 cond-says P false x y f g = g refl
 
@@ -143,7 +145,7 @@ behind-two p q ss os =
     simp (bits-append ss os, length-append, length-append, length-append) (omega arith) in
     rw (n, append-assoc ss os)
 
-not-sent : {X : Type 0} → (false ≡ true) ⊎ X → X
+pub not-sent : {X : Type 0} → (false ≡ true) ⊎ X → X
 not-sent (inl e) = let z : bit false ≡ bit true = ap bit e in absurd (omega arith)
 not-sent (inr x) = x
 
@@ -170,25 +172,20 @@ module _ (r : Record) (ns payload other : List ℕ) (types : Typed r) (valid : v
 
 -- of the pieces that are not slots, only other data keeps any
 module _ (w : Sent) (f : Fits w) where
-  config-kept : (b : Bool) → keptBits kindP (configPieces b (w .config)) ≡ []
+  config-kept : (kind : ℕ) → eqb kindC kind ≡ false → (b : Bool) → keptBits kind (configPieces b (w .config)) ≡ []
   unfolding keptBits
-  config-kept true = refl
-  config-kept false = refl
-
-  config-kept-other : (b : Bool) → keptBits kindO (configPieces b (w .config)) ≡ []
-  unfolding keptBits
-  config-kept-other true = refl
-  config-kept-other false = refl
+  config-kept kind e true = rw e
+  config-kept kind e false = refl
 
   config-widths : (b : Bool) → keptWidths kindP (configPieces b (w .config)) ≡ []
   unfolding keptWidths
   config-widths true = refl
   config-widths false = refl
 
-  other-kept : (b : Bool) (x : List Bool) → keptBits kindP (cond b (piece (passed closed) kindO 0 x ∷ []) []) ≡ []
+  other-kept : (kind : ℕ) → eqb kindO kind ≡ false → (b : Bool) (x : List Bool) → keptBits kind (cond b (piece (passed closed) kindO 0 x ∷ []) []) ≡ []
   unfolding keptBits
-  other-kept true x = refl
-  other-kept false x = refl
+  other-kept kind e true x = rw e
+  other-kept kind e false x = refl
 
   other-kept-other : (b : Bool) (x : List Bool) → keptBits kindO (cond b (piece (passed closed) kindO 0 x ∷ []) []) ≡ cond b x []
   unfolding keptBits
@@ -211,8 +208,8 @@ module _ (w : Sent) (f : Fits w) where
         kept-append kindP (configPieces (w .send) (w .config) ++ (slotsIn w f ++ othersIn)) (alignment (length (bitsIn (contentPieces w))) ∷ []),
         kept-append kindP (configPieces (w .send) (w .config)) (slotsIn w f ++ othersIn),
         kept-append kindP (slotsIn w f) othersIn,
-        config-kept (w .send),
-        other-kept (eqb (w .config .other) 1) (take (w .config .bits) (unpack (w .other))),
+        config-kept kindP refl (w .send),
+        other-kept kindP refl (eqb (w .config .other) 1) (take (w .config .bits) (unpack (w .other))),
         k,
         whole-is w f,
         take-length,
@@ -223,13 +220,27 @@ module _ (w : Sent) (f : Fits w) where
   others-kept : keptBits kindO (pieces w) ≡ cond (eqb (w .config .other) 1) (take (w .config .bits) (unpack (w .other))) []
   unfolding keptBits othersIn
   others-kept =
-      let k = slots-other (streamsOf (w .config)) (w .config .subframes + 1) (w .lengths) (w .payload) in
+      let k = slots-none (streamsOf (w .config)) kindO refl refl (w .config .subframes + 1) (w .lengths) (w .payload) in
       rw (
         kept-append kindO (configPieces (w .send) (w .config) ++ (slotsIn w f ++ othersIn)) (alignment (length (bitsIn (contentPieces w))) ∷ []),
         kept-append kindO (configPieces (w .send) (w .config)) (slotsIn w f ++ othersIn),
         kept-append kindO (slotsIn w f) othersIn,
-        config-kept-other (w .send),
+        config-kept kindO refl (w .send),
         other-kept-other (eqb (w .config .other) 1) (take (w .config .bits) (unpack (w .other))),
+        k,
+        append-nil,
+      )
+
+  zeros-kept : keptBits kindA (pieces w) ≡ bitsOf ((8 - length (bitsIn (contentPieces w)) % 8) % 8) 0
+  unfolding keptBits othersIn
+  zeros-kept =
+      let k = slots-none (streamsOf (w .config)) kindA refl refl (w .config .subframes + 1) (w .lengths) (w .payload) in
+      rw (
+        kept-append kindA (configPieces (w .send) (w .config) ++ (slotsIn w f ++ othersIn)) (alignment (length (bitsIn (contentPieces w))) ∷ []),
+        kept-append kindA (configPieces (w .send) (w .config)) (slotsIn w f ++ othersIn),
+        kept-append kindA (slotsIn w f) othersIn,
+        config-kept kindA refl (w .send),
+        other-kept kindA refl (eqb (w .config .other) 1) (take (w .config .bits) (unpack (w .other))),
         k,
         append-nil,
       )
@@ -263,6 +274,9 @@ answer-is s held room r h k =
     let n : length s ≡ 0 → ⊥ = λ e. omega arith in
     rw (le-ltb room 4368 r, ne-eqb (length s) 0 n, le-ltb 8191 (length s) k)
 
+no-number : (k : ℕ) → number 0 (bitsOf k 0) ≡ 0
+no-number k = number-bitsOf 0 k 0 ∙ omega (arith, mod-eq-of-lt (pow-pos k))
+
 pub reads-back : (w : Sent) → Typed (w .config) → validOf (w .config) ≡ true → Fits w → sizeOf w ≤ 8191
     → (held : Held) → (w .send ≡ true) ⊎ (held ≡ record { present = true; config = w .config }) → (room : ℕ) → 4368 ≤ room
     → ReadsBack w (pack (sizeOf w) (elementBits w)) held room
@@ -277,7 +291,10 @@ reads-back w types valid f m held h room r =
       items = itemsAt 0 (pieces w);
       count = countOf (read s (audioMuxElement held));
       accepts = answer-is s held room r (omega (arith, l, some-is w f)) (omega (arith, l)) ∙ accepted-is (read s (audioMuxElement held)) _ _ a;
-      slots = widths-kept kindP (pieces w) 0 ∙ widths-are w f;
-      payloads = contents-kept kindP s (pieces w) [] u ∙ payloads-kept w f;
-      others = contents-kept kindO s (pieces w) [] u ∙ others-kept w f;
+      shows = record {
+        slots = widths-kept kindP (pieces w) 0 ∙ widths-are w f;
+        payloads = contents-kept kindP s (pieces w) [] u ∙ payloads-kept w f;
+        others = contents-kept kindO s (pieces w) [] u ∙ others-kept w f;
+        zeros = ap (number 0) (contents-kept kindA s (pieces w) [] u ∙ zeros-kept w f) ∙ no-number _;
+      };
     }

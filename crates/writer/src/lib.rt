@@ -11,7 +11,8 @@ ghost use Rattle.records.specs.Table.{streamsIn};
 ghost use Rattle.records.specs.Valid.{validOf};
 ghost use Rattle.element.specs.Mux.{streamsOf};
 ghost use Rattle.writer.specs.Written.{bitsIn, toSend, elementBits, sizeOf, lengthBits, slotBits, lengthsBits, sumOf, subframePieces};
-ghost use Rattle.writer.specs.Write.{fits, writtenOf, outAfter};
+ghost use Rattle.writer.specs.Write.{fits};
+ghost use Rattle.writer.specs.Promises.{WritePromise};
 ghost use Rattle.writer.specs.Sizes.{lengthBytes, frontBits, otherBits};
 use config_writer::put_mux;
 use kernel::Refusal;
@@ -194,8 +195,7 @@ fn write_fitting(
     out: &mut [u8],
 ) -> Written
     requires { ⌜ (validOf r ≡ true) × (fits (toSend r send (now ns) (now payload) (now other)) ≡ true) × (lengths ≡ lengthBytes (r .subframes + 1) (streamsOf r) (now ns)) × (lengths ≤ 17247242240) × (length (now payload) ≤ 4398046511104) ⌝ }
-    ensures reply { λ x. ⌜ x ≡ writtenOf (toSend r send (now (ns .entry)) (now (payload .entry)) (now (other .entry))) (length (now (out .entry))) ⌝ }
-    ensures bytes { λ x. ⌜ now (out .exit) ≡ outAfter (toSend r send (now (ns .entry)) (now (payload .entry)) (now (other .entry))) (now (out .entry)) x ⌝ }
+    ensures { λ x. ⌜ WritePromise (toSend r send (now (ns .entry)) (now (payload .entry)) (now (other .entry))) (now (out .entry)) x (now (out .exit)) ⌝ }
 {
     let size = size_of(scratch, r, send, lengths, payload.len());
     if size > 8191 {
@@ -218,8 +218,7 @@ fn write_valid(
     out: &mut [u8],
 ) -> Written
     requires { ⌜ validOf r ≡ true ⌝ }
-    ensures reply { λ x. ⌜ x ≡ writtenOf (toSend r send (now (ns .entry)) (now (payload .entry)) (now (other .entry))) (length (now (out .entry))) ⌝ }
-    ensures bytes { λ x. ⌜ now (out .exit) ≡ outAfter (toSend r send (now (ns .entry)) (now (payload .entry)) (now (other .entry))) (now (out .entry)) x ⌝ }
+    ensures { λ x. ⌜ WritePromise (toSend r send (now (ns .entry)) (now (payload .entry)) (now (other .entry))) (now (out .entry)) x (now (out .exit)) ⌝ }
 {
     let layers = r.layers;
     let streams = r.streams;
@@ -245,8 +244,7 @@ pub fn write(
     other: &[u8],
     out: &mut [u8],
 ) -> Written
-    ensures reply { λ x. ⌜ x ≡ writtenOf (toSend r send (now (lengths .entry)) (now (payload .entry)) (now (other .entry))) (length (now (out .entry))) ⌝ }
-    ensures bytes { λ x. ⌜ now (out .exit) ≡ outAfter (toSend r send (now (lengths .entry)) (now (payload .entry)) (now (other .entry))) (now (out .entry)) x ⌝ }
+    ensures { λ x. ⌜ WritePromise (toSend r send (now (lengths .entry)) (now (payload .entry)) (now (other .entry))) (now (out .entry)) x (now (out .exit)) ⌝ }
 {
     if valid(r) {
         return write_valid(r, send, lengths, payload, other, out);

@@ -1,7 +1,5 @@
 -- `config::stream_mux_config` meets its contract.
-use mathlib.Core.Path.{refl, ap, _≡_, _∙_}
-use mathlib.Core.List.{List}
-use Prim.Native.Nat.{ℕ}
+use mathlib.Core.Path.{ap, _∙_}
 use native.Mathlib.Omega.{arith}
 use denote.Ref.{now}
 use borrow.Author.Needs.{needs}
@@ -9,20 +7,10 @@ use Rattle.kernel.specs.Answer.{refusal}
 use Rattle.kernel.specs.Reading.{Sound}
 use Rattle.kernel.proofs.Chain.{got, so, gives, on, off, steady}
 use Rattle.config.specs.Mux.{streamMuxConfig}
-use Rattle.config.specs.Answer.{toldHeaded, toldTailed, toldMux, toldVerdict, IfDone, whyVerdict, IfRefused, tableAfter, Few, placesOf, whyHeaded, whyTailed}
-use Rattle.kernel.specs.declared.Refusal.{Refusal}
-use Rattle.kernel.specs.Answer.{Told}
-use Rattle.records.specs.declared.Record.{Record}
-use Rattle.records.specs.Blank.{noRecord}
-use Rattle.config.specs.declared.Mux.{Mux}
-use Rattle.config.specs.declared.Verdict.the-variants.{Refused}
+use Rattle.config.specs.Answer.{toldHeaded, toldTailed, toldVerdict, whyVerdict, placesOf, whyHeaded, whyTailed}
+use Rattle.config.proofs.Beside.{refusing}
 use Rattle.config.proofs.stream_mux_config.Statement.{statement}
 use Rattle.config.proofs.stream_mux_config.Tie as tie
-
--- what is said of a refusal: nothing is held, and the table is as it was
-refusing : (r : Mux) (x : Refusal) (t : List (List ℕ)) (o : Told Record) → r .verdict ≡ Refused x → r .held ≡ noRecord → refusal x ≡ o
-    → (toldMux r ≡ o) × (IfRefused (r .verdict) (r .held ≡ noRecord) × ((t ≡ tableAfter (r .verdict) t (r .held)) × IfDone (r .verdict) (Few (r .held))))
-refusing r x t o e h q = rw e (q, (h, (refl, tt)))
 
 kept : (f : tie.After-head) → Sound (now (f .before .before .before .before .args .el)) (f .head .given .0 .1 .0 .at) (f .head .given .0 .1 .0 .read)
 kept f = steady (got toldHeaded _ _ _ _ (f .before .before .head-of .ensures .0) (f .head .given .1)) (omega arith)
@@ -47,7 +35,7 @@ unfolding streamMuxConfig
 returns c =
     let w = c .before in
     let q = w .before .enum-told .given .1 in
-    refusing (c .refused-mux .result) (w .why-headed .result) _ _ (c .refused-mux .ensures .0) (c .refused-mux .ensures .1)
+    refusing _ _ _ _ _ _ _ _ (c .refused-mux .ensures .0) (c .refused-mux .ensures .1)
     (ap refusal (w .why-headed .ensures ∙ ap whyHeaded q) ∙ so (off _ (got toldHeaded _ _ _ _ (w .before .before .before .head-of .ensures .0) q)))
 
 programs-of-requires : tie.Need-programs-of-requires
@@ -75,16 +63,16 @@ returns-2 c =
     let q = d .enum-told2 .given .1 in
     let p = d .before .before in
     let f = p .before .before .before in
-    refusing (c .refused-mux2 .result) (w .why-verdict .result) _ _ (c .refused-mux2 .ensures .0) (c .refused-mux2 .ensures .1)
+    refusing _ _ _ _ _ _ _ _ (c .refused-mux2 .ensures .0) (c .refused-mux2 .ensures .1)
     (ap refusal (w .why-verdict .ensures ∙ ap whyVerdict q)
     ∙ so (on _ (got toldHeaded _ _ _ _ (f .before .before .head-of .ensures .0) (f .head .given .1))
-    (off _ (got (toldVerdict (placesOf (p .programs-of .result))) _ _ _ _ (p .programs-of .ensures .0) q))))
+    (off _ (got (toldVerdict (placesOf (p .programs-of .result))) _ _ _ _ (p .programs-of .ensures .0 .0 .0) q))))
 
 tail-of-requires : tie.Need-tail-of-requires
 tail-of-requires c κs =
     let v = c .before in
     let p = v .before .before in
-    steady (got (toldVerdict (placesOf (p .programs-of .result))) _ _ _ _ (p .programs-of .ensures .0) (v .v .given .1)) (kept (p .before .before .before))
+    steady (got (toldVerdict (placesOf (p .programs-of .result))) _ _ _ _ (p .programs-of .ensures .0 .0 .0) (v .v .given .1)) (kept (p .before .before .before))
 
 enum-known-tail : tie.Need-enum-known-tail
 enum-known-tail c = search needs
@@ -107,10 +95,10 @@ returns-3 c =
     let v = d .before .before .before .before in
     let p = v .before .before in
     let f = p .before .before .before in
-    refusing (c .refused-mux3 .result) (w .why-tailed .result) _ _ (c .refused-mux3 .ensures .0) (c .refused-mux3 .ensures .1)
+    refusing _ _ _ _ _ _ _ _ (c .refused-mux3 .ensures .0) (c .refused-mux3 .ensures .1)
     (ap refusal (w .why-tailed .ensures ∙ ap whyTailed q)
     ∙ so (on _ (got toldHeaded _ _ _ _ (f .before .before .head-of .ensures .0) (f .head .given .1))
-    (on _ (got (toldVerdict (placesOf (p .programs-of .result))) _ _ _ _ (p .programs-of .ensures .0) (v .v .given .1))
+    (on _ (got (toldVerdict (placesOf (p .programs-of .result))) _ _ _ _ (p .programs-of .ensures .0 .0 .0) (v .v .given .1))
     (off _ (got toldTailed _ _ _ _ (d .before .before .tail-of .ensures) q)))))
 
 record-of-requires : tie.Need-record-of-requires
@@ -123,13 +111,19 @@ returns-4 c =
     let v = t .before .before .before .before in
     let p = v .before .before in
     let f = p .before .before .before in
-    let done = rw (v .v .given .1) at (p .programs-of .ensures .1) in
+    let done = rw (v .v .given .1) at (p .programs-of .ensures) in
     let few = rw (f .head .given .1) at (f .before .before .head-of .ensures .1) in
     rw (c .record-of .ensures) (
-      so (on _ (got toldHeaded _ _ _ _ (f .before .before .head-of .ensures .0) (f .head .given .1))
-          (on _ (got (toldVerdict (placesOf (p .programs-of .result))) _ _ _ _ (p .programs-of .ensures .0) (v .v .given .1))
-          (on _ (got toldTailed _ _ _ _ (t .before .before .tail-of .ensures) (t .tail .given .1)) gives))),
-      (tt, (done .0, (few .1, done .1))),
+      (
+        (
+          so (on _ (got toldHeaded _ _ _ _ (f .before .before .head-of .ensures .0) (f .head .given .1))
+              (on _ (got (toldVerdict (placesOf (p .programs-of .result))) _ _ _ _ (p .programs-of .ensures .0 .0 .0) (v .v .given .1))
+              (on _ (got toldTailed _ _ _ _ (t .before .before .tail-of .ensures) (t .tail .given .1)) gives))),
+          tt,
+        ),
+        done .0 .1,
+      ),
+      (few .1, done .1),
     )
 
 pub stream-mux-config-spec : {M : Type 1} → statement M

@@ -7,7 +7,7 @@ use Rattle.config.specs.Mux.{programsBits}
 use Rattle.config_writer.proofs.Turns.{programs-turn, few-streams}
 use lib.ListN.{getD}
 use Rattle.records.specs.Table.{streamsIn}
-use Rattle.config.proofs.TripMux.{in-more}
+use Rattle.records.proofs.Tables.{streams-next}
 use borrow.Author.Needs.{needs}
 use Rattle.config_writer.proofs.put_programs.Statement.{statement}
 use Rattle.config_writer.proofs.put_programs.Tie as tie
@@ -75,7 +75,7 @@ loop-again c =
     let i = g .before .before in
     let l = i .before in
     let a = l .before .before .args in
-    let more = in-more (a .t5) (a .n) (l .loop .p) (omega arith) in (
+    let more = streams-next (a .t5) (a .n) (l .loop .p) (omega arith) in (
       omega (arith, l .loop .inv .0),
       omega (arith, l .loop .inv .1, more),
       omega (arith, room i),

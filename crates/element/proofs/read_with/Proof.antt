@@ -15,7 +15,7 @@ returns : tie.Need-returns
 returns c =
     let a = c .before .before .before .before .args in
     let q = map-small (a .el .now) (a .held) (length (a .map .now)) (omega arith) in
-    (c .refused-unread .ensures ∙ ap (replyWith (a .held)) (sym q), (ap (mapAfter (a .map .now)) (sym q), ap (tableAfter (a .table .now)) (sym q)))
+    ((c .refused-unread .ensures ∙ ap (replyWith (a .held)) (sym q), ap (mapAfter (a .map .now)) (sym q)), ap (tableAfter (a .table .now)) (sym q))
 
 refused-unread-requires-2 : tie.Need-refused-unread-requires-2
 refused-unread-requires-2 c κs = search needs
@@ -24,7 +24,7 @@ returns-2 : tie.Need-returns-2
 returns-2 c =
     let a = c .before .before .before .before .before .args in
     let q = length-none (a .el .now) (a .held) (length (a .map .now)) (omega arith) (omega arith) in
-    (c .refused-unread2 .ensures ∙ ap (replyWith (a .held)) (sym q), (ap (mapAfter (a .map .now)) (sym q), ap (tableAfter (a .table .now)) (sym q)))
+    ((c .refused-unread2 .ensures ∙ ap (replyWith (a .held)) (sym q), ap (mapAfter (a .map .now)) (sym q)), ap (tableAfter (a .table .now)) (sym q))
 
 refused-unread-requires-3 : tie.Need-refused-unread-requires-3
 refused-unread-requires-3 c κs = search needs
@@ -33,7 +33,7 @@ returns-3 : tie.Need-returns-3
 returns-3 c =
     let a = c .before .before .before .before .before .before .args in
     let q = length-over (a .el .now) (a .held) (length (a .map .now)) (omega arith) (λ z. omega arith) (omega arith) in
-    (c .refused-unread3 .ensures ∙ ap (replyWith (a .held)) (sym q), (ap (mapAfter (a .map .now)) (sym q), ap (tableAfter (a .table .now)) (sym q)))
+    ((c .refused-unread3 .ensures ∙ ap (replyWith (a .held)) (sym q), ap (mapAfter (a .map .now)) (sym q)), ap (tableAfter (a .table .now)) (sym q))
 
 element-of-requires : tie.Need-element-of-requires
 element-of-requires c κs = search needs
@@ -46,8 +46,8 @@ returns-4 c =
     let f = c .before .before in
     let a = f .before .before .before .before .before .before .before .before .args in
     let q = length-right (a .el .now) (a .held) (length (a .map .now)) (omega arith) (λ z. omega arith) (omega arith) in (
-      f .element-of .ensures .0 ∙ ap (replyWith (a .held)) (sym q),
-      (f .element-of .ensures .1 .0 ∙ ap (mapAfter (a .map .now)) (sym q), f .element-of .ensures .1 .1 ∙ ap (tableAfter (a .table .now)) (sym q)),
+      (f .element-of .ensures .0 ∙ ap (replyWith (a .held)) (sym q), f .element-of .ensures .1 .0 ∙ ap (mapAfter (a .map .now)) (sym q)),
+      f .element-of .ensures .1 .1 ∙ ap (tableAfter (a .table .now)) (sym q),
     )
 
 pub read-with-spec : {M : Type 1} → statement M

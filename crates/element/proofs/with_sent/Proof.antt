@@ -33,7 +33,7 @@ returns c =
     let g = d .before .before in
     let a = g .before .before .before .before .args in
     let x = c .why-verdict .result in
-    let e : told (run (a .el .now) streamMuxConfig (a .c .at) (a .c .read)) ≡ refusal x = sym (g .stream-mux-config .ensures .0) ∙ ap (toldVerdict (g .stream-mux-config .result .held)) q ∙ ap refusal (sym (c .why-verdict .ensures ∙ ap whyVerdict q)) in
+    let e : told (run (a .el .now) streamMuxConfig (a .c .at) (a .c .read)) ≡ refusal x = sym (g .stream-mux-config .ensures .0 .0 .0) ∙ ap (toldVerdict (g .stream-mux-config .result .held)) q ∙ ap refusal (sym (c .why-verdict .ensures ∙ ap whyVerdict q)) in
     sent-refused (a .el .now) (a .c .at) (a .c .read) (a .held) (a .map .now) (a .table .now) x e
 
 behind-requires : tie.Need-behind-requires
@@ -41,10 +41,10 @@ behind-requires c κs =
     let k = c .before .before in
     let f = k .before in
     let g = f .before .before in
-    let w = rw (f .v .given .1) at (g .stream-mux-config .ensures .1 .1 .1) in
+    let w = rw (f .v .given .1) at (g .stream-mux-config .ensures .1) in
     let a = g .before .before .before .before .args in
     let p = g .before .before .before .before .pre in
-    let e = sym (g .stream-mux-config .ensures .0) ∙ ap (toldVerdict (g .stream-mux-config .result .held)) (f .v .given .1) in
+    let e = sym (g .stream-mux-config .ensures .0 .0 .0) ∙ ap (toldVerdict (g .stream-mux-config .result .held)) (f .v .given .1) in
     (w, p .0, omega (arith, p .1, sent-forward (a .el .now) (a .c .at) (a .c .read) e), sent-steady (a .el .now) (a .c .at) (a .c .read) e (p .2))
 
 keep-table-requires : tie.Need-keep-table-requires
@@ -66,8 +66,8 @@ returns-2 c =
     let s = g .before .before .before .before in
     let a = s .args in
     let r = g .stream-mux-config .result .held in
-    let e = sym (g .stream-mux-config .ensures .0) ∙ ap (toldVerdict r) (f .v .given .1) in
-    let filled = rw (f .v .given .1) at (g .stream-mux-config .ensures .1 .1 .0) in
+    let e = sym (g .stream-mux-config .ensures .0 .0 .0) ∙ ap (toldVerdict r) (f .v .given .1) in
+    let filled = rw (f .v .given .1) at (g .stream-mux-config .ensures .0 .1) in
     let q = sent-done (a .el .now) (a .c .at) (a .c .read) r _ _ (s .pre .1) e in (
       ap (λ (h : Held). record { verdict = b .behind .result; held = h }) (c .held-sent .ensures) ∙ ap (λ (v : Verdict). replySent v r (a .held)) (b .behind .ensures .0) ∙ behind-sent (a .el .now) r _ _ (a .held) ∙ ap (replyWith (a .held)) (sym q),
       (b .behind .ensures .1 ∙ ap (mapAfter (a .map .now)) (sym q), t .keep-table .ensures ∙ behind-table-sent (a .el .now) r _ _ (a .table .now) (b .behind .ensures .0) filled ∙ ap (tableAfter (a .table .now)) (sym q)),

@@ -29,8 +29,8 @@ returns c =
     let a = s .args in
     let x = answer (a .el .now) (a .held) 4368 in
     let n = c .before .before .before .lay-verdict .ensures in
-    let e = rw (s .pre) at (b .read-with .ensures .0) in
-    let t = rw (s .pre) at (b .read-with .ensures .1 .1) in
+    let e = rw (s .pre) at (b .read-with .ensures .0 .0) in
+    let t = rw (s .pre) at (b .read-with .ensures .1) in
     (ap (λ (r : Reply). r .held) e, (c .said-after .ensures ∙ said-by (a .held) (a .said) x e, (n .0, rw (shown-by (a .held) (a .said) x e (a .element) _ t) at (n .1))))
 
 pub show-element-spec : {M : Type 1} → statement M

@@ -15,10 +15,10 @@ use Rattle.config.proofs.layers.layers_of.Statement.{statement}
 use Rattle.config.proofs.layers.layers_of.Tie as tie
 
 abbrev Inv-loop : tie.InvT-loop
-Inv-loop el version n next cur₀ kept₀ i₀ left₀ cur kept i left = (i + left ≡ next + n) × Sound el (cur .at) (cur .read) × Comes el (layers version left i kept) (cur .at) (cur .read) (told (run el (layers version n next kept₀) (cur₀ .at) (cur₀ .read)))
+Inv-loop el version n next streams cur₀ kept₀ i₀ left₀ cur kept i left = (i + left ≡ next + n) × Sound el (cur .at) (cur .read) × Comes el (layers version left i kept) (cur .at) (cur .read) (told (run el (layers version n next streams) (cur₀ .at) (cur₀ .read)))
 
 abbrev μ-loop : tie.MeasureT-loop
-μ-loop el version n next cur₀ kept₀ i₀ left₀ cur kept i left = left
+μ-loop el version n next streams cur₀ kept₀ i₀ left₀ cur kept i left = left
 
 -- the layer that a turn read, after the stream just before
 ran : (c : tie.After-layer-of Inv-loop μ-loop) → let l = c .before .before .before in
@@ -48,9 +48,11 @@ returns : tie.Need-returns Inv-loop μ-loop
 returns c =
     let d = c .before in
     let q = d .enum-told .given .1 in
-    let l = d .before .before .before .before .before in
-    ap refusal (c .why-streamed .ensures ∙ ap whyStreamed q)
-    ∙ same-end (layers-stop _ (l .loop .left) (l .loop .i) (l .loop .kept) (omega arith) (got toldStreamed _ _ _ _ (ran (d .before .before)) q)) (l .loop .inv .2)
+    let l = d .before .before .before .before .before in (
+      ap refusal (c .why-streamed .ensures ∙ ap whyStreamed q)
+          ∙ same-end (layers-stop _ (l .loop .left) (l .loop .i) (l .loop .kept) (omega arith) (got toldStreamed _ _ _ _ (ran (d .before .before)) q)) (l .loop .inv .2),
+      refl,
+    )
 
 mul-kept : tie.Need-mul-kept Inv-loop μ-loop
 mul-kept c = search needs
@@ -77,7 +79,7 @@ loop-again c =
 returns-2 : tie.Need-returns-2 Inv-loop μ-loop
 returns-2 c =
     let l = c .before in
-    same-end (layers-done _ (l .loop .left) (l .loop .i) (l .loop .kept) (omega arith)) (l .loop .inv .2)
+    (same-end (layers-done _ (l .loop .left) (l .loop .i) (l .loop .kept) (omega arith)) (l .loop .inv .2), tt)
 
 pub layers-of-spec : {M : Type 1} → statement M
 layers-of-spec =

@@ -3,7 +3,7 @@ use mathlib.Core.Path.{refl, ap, sym, _≡_, _∙_}
 use mathlib.Core.List.{_++_}
 use Prim.Native.Nat.{ℕ, _+_, _≤_, _<_}
 use native.Mathlib.Omega.{arith}
-use lib.ListN.{length, drop, replicate, length-set}
+use lib.ListN.{length, drop, length-set}
 use denote.Ref.{now}
 use borrow.Author.Needs.{needs}
 use borrow.Author.Tests.{le-leb, lt-leb}
@@ -19,19 +19,20 @@ use Rattle.kernel.specs.Lists.{tab}
 use Rattle.kernel.proofs.Lists.{tab-none}
 use Rattle.records.specs.Table.{streamsIn, rowAt}
 use Rattle.records.proofs.Tables.{streams-more, streams-end, table-end}
+use Rattle.config.proofs.Beside.{refusing}
 use Rattle.config.proofs.Turns.{programs-done, programs-stop, programs-full, programs-cut, programs-turn, row-stored}
 use Rattle.config.proofs.layers.programs_of.Statement.{statement}
 use Rattle.config.proofs.layers.programs_of.Tie as tie
 
 abbrev Inv-loop : tie.InvT-loop
-Inv-loop el version n table₀ streams₀ layers₀ cur₀ p₀ next₀ left₀ table streams layers cur p next left = (left + p ≡ n + 1) × (next ≤ 16) × Sound el (cur .at) (cur .read) × (length layers ≡ 16) × (next ≡ streamsIn layers n p) × (table ≡ tab p (rowAt layers n) ++ drop p (replicate 16 (replicate 8 255))) × Comes el (programs version left p next (record { layers = layers; streams = streams })) (cur .at) (cur .read) (told (run el (programs version (n + 1) 0 0 noPlaces) (cur₀ .at) (cur₀ .read)))
+Inv-loop el version n table cells₀ streams₀ layers₀ cur₀ p₀ next₀ left₀ cells streams layers cur p next left = (left + p ≡ n + 1) × (next ≤ 16) × Sound el (cur .at) (cur .read) × (length layers ≡ 16) × (next ≡ streamsIn layers n p) × (cells ≡ tab p (rowAt layers n) ++ drop p cells₀) × Comes el (programs version left p next (record { layers = layers; streams = streams })) (cur .at) (cur .read) (told (run el (programs version (n + 1) 0 0 noPlaces) (cur₀ .at) (cur₀ .read)))
 
 abbrev μ-loop : tie.MeasureT-loop
-μ-loop el version n table₀ streams₀ layers₀ cur₀ p₀ next₀ left₀ table streams layers cur p next left = left
+μ-loop el version n table cells₀ streams₀ layers₀ cur₀ p₀ next₀ left₀ cells streams layers cur p next left = left
 
 -- the numLayer that a turn read
 first : (f : tie.After-three Inv-loop μ-loop) → let l = f .before .before .before .before in
-    Comes (now (l .before .before .before .before .args .el)) (field Open 3) (l .loop .cur .at) (l .loop .cur .read) (toldFetched (Value (f .three .given .0 .0) (f .three .given .0 .1 .0)))
+    Comes (now (l .before .before .before .args .el)) (field Open 3) (l .loop .cur .at) (l .loop .cur .read) (toldFetched (Value (f .three .given .0 .0) (f .three .given .0 .1 .0)))
 first f = got toldFetched _ _ _ _ (f .before .before .fetch .ensures) (f .three .given .1)
 
 no-stream-requires : tie.Need-no-stream-requires Inv-loop μ-loop
@@ -56,15 +57,18 @@ enum-told c = search needs
 why-requires : tie.Need-why-requires Inv-loop μ-loop
 why-requires c κs = search needs
 
+refused-placed-requires : tie.Need-refused-placed-requires Inv-loop μ-loop
+refused-placed-requires c κs = search needs
+
 returns : tie.Need-returns Inv-loop μ-loop
 returns c =
-    let d = c .before in
+    let w = c .before in
+    let d = w .before in
     let q = d .enum-told .given .1 in
-    let l = d .before .before .before .before in (
-      ap refusal (c .why .ensures ∙ ap whyFetched q)
-          ∙ same-end (programs-stop _ (l .loop .left) (l .loop .p) (l .loop .next) _ (omega arith) (got toldFetched _ _ _ _ (d .before .before .fetch .ensures) q)) (l .loop .inv .6),
-      (tt, tt),
-    )
+    let l = d .before .before .before .before in
+    refusing _ _ _ _ _ _ _ _ (c .refused-placed .ensures .0) (c .refused-placed .ensures .1)
+    (ap refusal (w .why .ensures ∙ ap whyFetched q)
+    ∙ same-end (programs-stop _ (l .loop .left) (l .loop .p) (l .loop .next) _ (omega arith) (got toldFetched _ _ _ _ (d .before .before .fetch .ensures) q)) (l .loop .inv .6))
 
 cast-count : tie.Need-cast-count Inv-loop μ-loop
 cast-count c = search needs
@@ -75,12 +79,17 @@ add-count c = omega arith
 add-if1 : tie.Need-add-if1 Inv-loop μ-loop
 add-if1 c = omega arith
 
+refused-placed-requires-2 : tie.Need-refused-placed-requires-2 Inv-loop μ-loop
+refused-placed-requires-2 c κs = search needs
+
 returns-2 : tie.Need-returns-2 Inv-loop μ-loop
 returns-2 c =
-    let f = c .before .before in
+    let i = c .before in
+    let f = i .before .before in
     let l = f .before .before .before .before in
-    let h : 16 < l .loop .next + (f .three .given .0 .0 + 1) = c .if1 .taken in
-    (same-end (programs-full _ (l .loop .left) (l .loop .p) (l .loop .next) _ (omega arith) (first f) (lt-leb _ 16 h)) (l .loop .inv .6), (tt, tt))
+    let h : 16 < l .loop .next + (f .three .given .0 .0 + 1) = i .if1 .taken in
+    refusing _ _ _ _ _ _ _ _ (c .refused-placed2 .ensures .0) (c .refused-placed2 .ensures .1)
+    (same-end (programs-full _ (l .loop .left) (l .loop .p) (l .loop .next) _ (omega arith) (first f) (lt-leb _ 16 h)) (l .loop .inv .6))
 
 add-layers-of : tie.Need-add-layers-of Inv-loop μ-loop
 add-layers-of c = omega (arith, took _ 3 (first (c .before .before)) .narrow)
@@ -99,19 +108,22 @@ enum-told-2 c = search needs
 why-verdict-requires : tie.Need-why-verdict-requires Inv-loop μ-loop
 why-verdict-requires c κs = search needs
 
+refused-placed-requires-3 : tie.Need-refused-placed-requires-3 Inv-loop μ-loop
+refused-placed-requires-3 c κs = search needs
+
 returns-3 : tie.Need-returns-3 Inv-loop μ-loop
 returns-3 c =
-    let d = c .before in
+    let w = c .before in
+    let d = w .before in
     let q = d .enum-told2 .given .1 in
     let i = d .before .before .before in
     let f = i .before .before in
     let l = f .before .before .before .before in
-    let h : l .loop .next + (f .three .given .0 .0 + 1) ≤ 16 = omega arith in (
-      ap refusal (c .why-verdict .ensures ∙ ap whyVerdict q)
-          ∙ same-end (programs-cut _ (l .loop .left) (l .loop .p) (l .loop .next) _ (omega arith) (first f) (le-leb _ 16 h)
-          (got (toldVerdict (d .before .before .layers-of .result .streams)) _ _ _ _ (d .before .before .layers-of .ensures) q)) (l .loop .inv .6),
-      (tt, tt),
-    )
+    let h : l .loop .next + (f .three .given .0 .0 + 1) ≤ 16 = omega arith in
+    refusing _ _ _ _ _ _ _ _ (c .refused-placed3 .ensures .0) (c .refused-placed3 .ensures .1)
+    (ap refusal (w .why-verdict .ensures ∙ ap whyVerdict q)
+    ∙ same-end (programs-cut _ (l .loop .left) (l .loop .p) (l .loop .next) _ (omega arith) (first f) (le-leb _ 16 h)
+    (got (toldVerdict (d .before .before .layers-of .result .streams)) _ _ _ _ (d .before .before .layers-of .ensures .0) q)) (l .loop .inv .6))
 
 mul-layers : tie.Need-mul-layers Inv-loop μ-loop
 mul-layers c = search needs
@@ -122,11 +134,11 @@ array-write-layers c = omega arith
 row-from-requires : tie.Need-row-from-requires Inv-loop μ-loop
 row-from-requires c κs = omega arith
 
-mul-row : tie.Need-mul-row Inv-loop μ-loop
-mul-row c = search needs
+mul-cells : tie.Need-mul-cells Inv-loop μ-loop
+mul-cells c = search needs
 
-element-set-from-row : tie.Need-element-set-from-row Inv-loop μ-loop
-element-set-from-row c = omega arith
+array-set-from-cells : tie.Need-array-set-from-cells Inv-loop μ-loop
+array-set-from-cells c = omega arith
 
 add-p : tie.Need-add-p Inv-loop μ-loop
 add-p c = omega arith
@@ -146,27 +158,27 @@ loop-again c =
     let i = v .before .before .before in
     let f = i .before .before in
     let l = f .before .before .before .before in
-    let n : ℕ = l .before .before .before .before .args .n in
+    let n : ℕ = l .before .before .before .args .n in
     let h : l .loop .next + (f .three .given .0 .0 + 1) ≤ 16 = omega arith in
     let w : l .loop .p ≤ n = omega arith in
     let t : l .loop .p < length (l .loop .layers) = omega arith in
-    let s = got (toldVerdict (v .before .before .layers-of .result .streams)) _ _ _ _ (v .before .before .layers-of .ensures) (v .v .given .1) in (
+    let s = got (toldVerdict (v .before .before .layers-of .result .streams)) _ _ _ _ (v .before .before .layers-of .ensures .0) (v .v .given .1) in (
       omega arith,
       h,
       steady s (steady (first f) (l .loop .inv .2)),
       length-set (l .loop .layers) (l .loop .p) (f .three .given .0 .0) ∙ l .loop .inv .3,
       ap (λ (z : ℕ). z + (f .three .given .0 .0 + 1)) (l .loop .inv .4) ∙ sym (streams-more (l .loop .layers) n (l .loop .p) (f .three .given .0 .0) w t),
-      row-stored (l .loop .layers) (l .loop .table) _ _ n (l .loop .p) (f .three .given .0 .0) (l .loop .next) (l .loop .inv .5) (c .row-from .ensures) (l .loop .inv .4) w t (omega arith),
+      row-stored (l .loop .layers) (l .loop .cells) _ _ n (l .loop .p) (f .three .given .0 .0) (l .loop .next) (l .loop .inv .5) (c .row-from .ensures) (l .loop .inv .4) w t (omega arith),
       programs-turn _ (l .loop .left) (l .loop .p) (l .loop .next) _ (omega arith) (first f) (le-leb _ 16 h) s (l .loop .inv .6),
     )
 
 returns-4 : tie.Need-returns-4 Inv-loop μ-loop
 returns-4 c =
     let l = c .before in
-    let n : ℕ = l .before .before .before .before .args .n in
+    let n : ℕ = l .before .before .before .args .n in
     let e : l .loop .p ≡ n + 1 = omega arith in (
-      same-end (programs-done _ (l .loop .left) (l .loop .p) (l .loop .next) _ (omega arith)) (l .loop .inv .6),
-      (rw e at (l .loop .inv .5) ∙ table-end (l .loop .layers) n (omega arith), rw (streams-end (l .loop .layers) n (omega arith)) (let f = rw e at (l .loop .inv .4) in omega arith)),
+      ((same-end (programs-done _ (l .loop .left) (l .loop .p) (l .loop .next) _ (omega arith)) (l .loop .inv .6), tt), rw e at (l .loop .inv .5) ∙ table-end (l .loop .layers) n (omega arith)),
+      rw (streams-end (l .loop .layers) n (omega arith)) (let f = rw e at (l .loop .inv .4) in omega arith),
     )
 
 pub programs-of-spec : {M : Type 1} → statement M
@@ -182,22 +194,25 @@ programs-of-spec =
     enum-known-three
     enum-told
     why-requires
+    refused-placed-requires
     returns
     cast-count
     add-count
     add-if1
+    refused-placed-requires-2
     returns-2
     add-layers-of
     layers-of-requires
     enum-known-v
     enum-told-2
     why-verdict-requires
+    refused-placed-requires-3
     returns-3
     mul-layers
     array-write-layers
     row-from-requires
-    mul-row
-    element-set-from-row
+    mul-cells
+    array-set-from-cells
     add-p
     add-next
     sub-left

@@ -3,25 +3,25 @@ use mathlib.Core.Path.{refl, ap, sym, _≡_, _∙_}
 use mathlib.Core.List.{[]}
 use Prim.Native.Nat.{ℕ, _-_, _≤_}
 use native.Mathlib.Omega.{arith}
-use lib.ListN.{length, drop, take, length-set}
+use lib.ListN.{length, drop, take, replicate, length-set}
 use borrow.Author.Needs.{needs}
 use Rattle.kernel.specs.Answer.{value, refusal, told}
 use Rattle.kernel.specs.Reading.{run, Sound}
 use Rattle.kernel.proofs.Chain.{Comes, got, itself, same-end, steady}
 use Rattle.element.specs.Mux.{payloadLengthInfo}
 use Rattle.element.specs.Parts.{toldSpanned, whySpanned}
-use Rattle.element.proofs.Turns.{lengths-done, lengths-stop, lengths-turn, widths-more}
+use Rattle.element.proofs.Turns.{lengths-done, lengths-stop, lengths-turn, widths-more, zeros-more}
 use Rattle.element.proofs.slots.lengths_of.Statement.{statement}
 use Rattle.element.proofs.slots.lengths_of.Tie as tie
 
 abbrev Inv-loop : tie.InvT-loop
-Inv-loop el n streams cur₀ widths₀ i₀ cur widths i = (i ≤ n) × (length widths ≡ 16) × Sound el (cur .at) (cur .read) × Comes el (payloadLengthInfo (take i widths) (drop i (take n streams))) (cur .at) (cur .read) (told (run el (payloadLengthInfo [] (take n streams)) (cur₀ .at) (cur₀ .read)))
+Inv-loop el n streams cur₀ widths₀ i₀ cur widths i = (i ≤ n) × (length widths ≡ 16) × Sound el (cur .at) (cur .read) × Comes el (payloadLengthInfo (take i widths) (drop i (take n streams))) (cur .at) (cur .read) (told (run el (payloadLengthInfo [] (take n streams)) (cur₀ .at) (cur₀ .read))) × (drop i widths ≡ replicate (16 - i) 0)
 
 abbrev μ-loop : tie.MeasureT-loop
 μ-loop el n streams cur₀ widths₀ i₀ cur widths i = n - i
 
 loop-holds : tie.Need-loop-holds Inv-loop μ-loop
-loop-holds c = (omega arith, refl, omega arith, itself)
+loop-holds c = (omega arith, refl, omega arith, itself, refl)
 
 mul-s : tie.Need-mul-s Inv-loop μ-loop
 mul-s c = omega arith
@@ -45,9 +45,11 @@ returns : tie.Need-returns Inv-loop μ-loop
 returns c =
     let d = c .before in
     let q = d .enum-told .given .1 in
-    let l = d .before .before .before .before .before in
-    ap refusal (c .why-spanned .ensures ∙ ap whySpanned q)
-    ∙ same-end (lengths-stop (l .before .before .args .t2) (l .before .before .args .n) (take (l .loop .i) (l .loop .widths)) (l .loop .i) (omega arith) (omega arith) (got toldSpanned _ _ _ _ (d .before .before .slot-bits .ensures) q)) (l .loop .inv .3)
+    let l = d .before .before .before .before .before in (
+      ap refusal (c .why-spanned .ensures ∙ ap whySpanned q)
+          ∙ same-end (lengths-stop (l .before .before .args .t2) (l .before .before .args .n) (take (l .loop .i) (l .loop .widths)) (l .loop .i) (omega arith) (omega arith) (got toldSpanned _ _ _ _ (d .before .before .slot-bits .ensures) q)) (l .loop .inv .3),
+      refl,
+    )
 
 mul-widths : tie.Need-mul-widths Inv-loop μ-loop
 mul-widths c = search needs
@@ -70,14 +72,17 @@ loop-again c =
       length-set (l .loop .widths) (l .loop .i) (g .got .given .0 .0) ∙ l .loop .inv .1,
       steady s (l .loop .inv .2),
       rw (widths-more (l .loop .widths) (l .loop .i) (g .got .given .0 .0) (omega arith)) (lengths-turn (l .before .before .args .t2) (l .before .before .args .n) (take (l .loop .i) (l .loop .widths)) (l .loop .i) (omega arith) (omega arith) s (l .loop .inv .3)),
+      zeros-more (l .loop .widths) (l .loop .i) (g .got .given .0 .0) (l .loop .inv .4),
     )
 
 returns-2 : tie.Need-returns-2 Inv-loop μ-loop
 returns-2 c =
     let l = c .before in
-    let e : l .loop .i ≡ l .before .before .args .n = omega arith in
-    ap (λ (z : ℕ). value (take z (l .loop .widths)) (l .loop .cur .at) (l .loop .cur .read)) (sym e)
-    ∙ same-end (lengths-done (l .before .before .args .t2) (l .before .before .args .n) (take (l .loop .i) (l .loop .widths)) (l .loop .i) e) (l .loop .inv .3)
+    let e : l .loop .i ≡ l .before .before .args .n = omega arith in (
+      ap (λ (z : ℕ). value (take z (l .loop .widths)) (l .loop .cur .at) (l .loop .cur .read)) (sym e)
+          ∙ same-end (lengths-done (l .before .before .args .t2) (l .before .before .args .n) (take (l .loop .i) (l .loop .widths)) (l .loop .i) e) (l .loop .inv .3),
+      rw e at (l .loop .inv .4),
+    )
 
 pub lengths-of-spec : {M : Type 1} → statement M
 lengths-of-spec =

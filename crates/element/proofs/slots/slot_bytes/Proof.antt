@@ -7,7 +7,7 @@ use borrow.Author.Needs.{needs}
 use Rattle.kernel.specs.Answer.{told, toldFetched}
 use Rattle.kernel.specs.Reading.{run, field, Sound}
 use Rattle.kernel.proofs.Chain.{Comes, got, itself, same-end, steady, took}
-use Rattle.element.specs.Mux.{slotFrom}
+use Rattle.element.specs.Mux.{slotFrom, muxSlotLengthBytes}
 use Rattle.kernel.specs.declared.Window.the-variants.{Open}
 use Rattle.kernel.specs.declared.Fetched.the-variants.{Value}
 use Rattle.element.proofs.Turns.{slot-done, slot-stop, slot-last, slot-turn}
@@ -15,7 +15,7 @@ use Rattle.element.proofs.slots.slot_bytes.Statement.{statement}
 use Rattle.element.proofs.slots.slot_bytes.Tie as tie
 
 abbrev Inv-loop : tie.InvT-loop
-Inv-loop el cur₀ v₀ left₀ cur v left = (v + 255 * left ≤ 2088960) × Sound el (cur .at) (cur .read) × Comes el (slotFrom left v) (cur .at) (cur .read) (told (run el (slotFrom 8192 0) (cur₀ .at) (cur₀ .read)))
+Inv-loop el cur₀ v₀ left₀ cur v left = (v + 255 * left ≤ 2088960) × Sound el (cur .at) (cur .read) × Comes el (slotFrom left v) (cur .at) (cur .read) (told (run el muxSlotLengthBytes (cur₀ .at) (cur₀ .read)))
 
 abbrev μ-loop : tie.MeasureT-loop
 μ-loop el cur₀ v₀ left₀ cur v left = left
@@ -26,6 +26,7 @@ ran : (f : tie.After-a Inv-loop μ-loop) → let l = f .before .before .before .
 ran f = got toldFetched _ _ _ _ (f .before .before .fetch .ensures) (f .a .given .1)
 
 loop-holds : tie.Need-loop-holds Inv-loop μ-loop
+unfolding muxSlotLengthBytes
 loop-holds c = (omega arith, omega arith, itself)
 
 fetch-requires : tie.Need-fetch-requires Inv-loop μ-loop

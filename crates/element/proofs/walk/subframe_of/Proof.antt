@@ -8,11 +8,10 @@ use denote.Ref.{now}
 use borrow.Author.Needs.{needs}
 use Rattle.kernel.specs.Answer.{value, refusal}
 use Rattle.kernel.proofs.Chain.{Comes, got, steady}
-use Rattle.element.specs.Mux.{payloadLengthInfo, subframe}
+use Rattle.element.specs.Mux.{payloadLengthInfo, subframe, kindL}
 use Rattle.element.specs.Parts.{toldMeasured, whyMeasured}
 use Rattle.element.proofs.Goes.{goes-itself, goes-part, goes-told, forward, goes-from, ahead, stop-is, items-more, stored-item}
 use Rattle.kernel.specs.Element.{item, fields}
-use Rattle.element.specs.Mux.{kindL}
 use Rattle.element.proofs.walk.subframe_of.Statement.{statement}
 use Rattle.element.proofs.walk.subframe_of.Tie as tie
 
@@ -20,7 +19,7 @@ use Rattle.element.proofs.walk.subframe_of.Tie as tie
 ran : (v : tie.After-v) → let a = v .before .before .before .before .before .args in
     Comes (now (a .el)) (payloadLengthInfo [] (take (a .n) (a .streams))) (a .c .at) (a .c .read)
     (value (take (a .n) (v .before .before .lengths-of .result .widths)) (v .v .given .0 .0 .at) (v .v .given .0 .0 .read))
-ran v = got (toldMeasured (take (v .before .before .before .before .before .args .n) (v .before .before .lengths-of .result .widths))) _ _ _ _ (v .before .before .lengths-of .ensures) (v .v .given .1)
+ran v = got (toldMeasured (take (v .before .before .before .before .before .args .n) (v .before .before .lengths-of .result .widths))) _ _ _ _ (v .before .before .lengths-of .ensures .0) (v .v .given .1)
 
 lengths-of-requires : tie.Need-lengths-of-requires
 lengths-of-requires c κs = search needs
@@ -41,7 +40,7 @@ returns c =
     let q = d .enum-told .given .1 in
     let l = d .before .before in
     let a = l .before .before .before .args in
-    let s = got (toldMeasured (take (a .n) (l .lengths-of .result .widths))) _ _ _ _ (l .lengths-of .ensures) q in
+    let s = got (toldMeasured (take (a .n) (l .lengths-of .result .widths))) _ _ _ _ (l .lengths-of .ensures .0) q in
     (goes-told (stop-is _ _ _ s) (ap refusal (sym (c .why-measured .ensures ∙ ap whyMeasured q))), tt)
 
 sub-width : tie.Need-sub-width
