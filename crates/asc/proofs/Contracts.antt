@@ -3,22 +3,13 @@ use mathlib.Core.Path.{sym, _∙_}
 use Rattle.kernel.specs.Promises.{AllowsOne}
 use Rattle.kernel.proofs.Theorems.{fetched-once}
 use Rattle.asc.proofs.Theorems.{rated-once, formed-once, configured-once}
-use Rattle.asc.proofs.numbers.latm_get_value.Reads as latm-get-value
-use Rattle.asc.proofs.numbers.groups_of.Reads as groups-of
 use Rattle.asc.proofs.object_types.is_core.Reads as is-core
 use Rattle.asc.proofs.object_types.object_type.Reads as object-type
 use Rattle.asc.proofs.object_types.any_type.Reads as any-type
-use Rattle.asc.proofs.rates.why_rated.Reads as why-rated
 use Rattle.asc.proofs.rates.frequency_of.Reads as frequency-of
 use Rattle.asc.proofs.signalling.left_of.Reads as left-of
 use Rattle.asc.proofs.signalling.tail_of.Reads as tail-of
 use Rattle.asc.proofs.audio_specific_config.Reads as audio-specific-config
-
-pub latm-get-value-allows-one : AllowsOne latm-get-value.Learnt (λ k r e. r)
-latm-get-value-allows-one k a x y e f p q = fetched-once _ _ _ _ x y p q
-
-pub groups-of-allows-one : AllowsOne groups-of.Learnt (λ k r e. r)
-groups-of-allows-one k a x y e f p q = fetched-once _ _ _ _ x y p q
 
 pub is-core-allows-one : AllowsOne is-core.Learnt (λ k r e. r)
 is-core-allows-one k a x y e f p q = p ∙ sym q
@@ -28,9 +19,6 @@ object-type-allows-one k a x y e f p q = fetched-once _ _ _ _ x y p q
 
 pub any-type-allows-one : AllowsOne any-type.Learnt (λ k r e. r)
 any-type-allows-one k a x y e f p q = fetched-once _ _ _ _ x y p q
-
-pub why-rated-allows-one : AllowsOne why-rated.Learnt (λ k r e. r)
-why-rated-allows-one k a x y e f p q = p ∙ sym q
 
 pub frequency-of-allows-one : AllowsOne frequency-of.Learnt (λ k r e. r)
 frequency-of-allows-one k a x y e f p q = rated-once _ _ _ _ x y p q

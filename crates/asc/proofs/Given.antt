@@ -1,15 +1,14 @@
 -- What is read of AudioSpecificConfig is valid, and refused by a number of 01's table.
 use mathlib.Core.Path.{_≡_, refl}
-use mathlib.Core.Bool.{Bool, true, not, _&&_}
-use Prim.Native.Nat.{ℕ, zero, suc, _+_, _*_, _^_, _<_, _≤_}
-use native.Mathlib.Nat.{add-zero}
+use mathlib.Core.Bool.{Bool, true}
+use Prim.Native.Nat.{ℕ, _≤_}
 use native.Mathlib.Omega.{arith}
 use lib.Dec.{leb, eqb}
-use lib.Pow.{pow-mono}
 use borrow.Author.Tests.{leb-true, le-leb, eqb-true}
 use Rattle.kernel.specs.declared.Window.{Window}
 use Rattle.kernel.specs.declared.Window.the-variants.{Open, UpTo}
-use Rattle.kernel.proofs.Kept.{chosen, Any, Kept, gives, refuses, refuses-after, either, so, a-field, a-place, a-need, on, then}
+use Rattle.kernel.proofs.Kept.{chosen, Any, Kept, gives, refuses, refuses-after, either, a-field, a-place, a-need, on}
+use Rattle.kernel.proofs.Kept.{then}
 use Rattle.kernel.proofs.Tests.{both}
 use Rattle.records.specs.declared.Freq.{Freq}
 use Rattle.records.specs.declared.Form.{Form}
@@ -17,44 +16,10 @@ use Rattle.records.specs.declared.Config.{Config}
 use Rattle.records.specs.Valid.{validFreq, validForm, validConfig}
 use Rattle.records.proofs.Apart.{config-valid}
 use Rattle.asc.specs.declared.Flags.{Flags}
-use Rattle.asc.specs.Values.{bytesFrom, latmGetValue, groupsFrom}
-use Rattle.asc.specs.Asc.{isCore, isFront, objectType, anyType, hertz, frequency, channelConfiguration, unset, psExtension, psTail, sbrExtension, extensionType, syncExtension, tail, inFront, gaSpecificConfig, configOf, alone, underFront, audioSpecificConfig}
-use Rattle.asc.proofs.Turns.{byte-more}
-
--- the refusals behind the flag of an element: 3, and 5 to 15
-abbrev pub Numbered : ℕ → Type 0
-Numbered m = (leb 3 m && leb m 15 && not (eqb m 4)) ≡ true
-
--- ---- numbers of several bytes
-
--- of w bits
-abbrev pub Wide : ℕ → ℕ → Type 0
-Wide w v = v < 2 ^ w
-
-wider : (v w u : ℕ) → w ≤ u → Wide w v → Wide u v
-wider v w u l h = omega (arith, pow-mono {i = w} {j = u} l)
-
-byte-wide : (v b m n : ℕ) → Wide m v → Wide 8 b → Wide (m + 8 * suc n) (256 * v + b)
-byte-wide v b m n h g = wider (256 * v + b) (m + 8) (m + 8 * suc n) (omega arith) (byte-more v b m h g)
-
-bytes-from : (n v m : ℕ) → Wide m v → Kept Numbered (Wide (m + 8 * n)) (bytesFrom n v)
-unfolding bytesFrom
-bytes-from zero v m h = gives (rw add-zero h)
-bytes-from (suc n) v m h =
-    on _ (a-field _ _) λ b l. so (bytes-from n (256 * v + b) (m + 8) (byte-more v b m h l)) λ x k. let e : m + 8 + 8 * n ≡ m + 8 * suc n = omega arith in rw e at k
-
-pub get-value : Kept Numbered (Wide 32) latmGetValue
-unfolding latmGetValue
-get-value = on _ (a-field _ _) λ k l. so (bytes-from (k + 1) 0 0 (omega arith)) λ x h. wider x (0 + 8 * (k + 1)) 32 (omega arith) h
-
-pub groups-from : (n v m : ℕ) → Wide m v → Kept Numbered (Wide (m + 8 * n)) (groupsFrom n v)
-unfolding groupsFrom
-groups-from zero v m h = gives (rw add-zero h)
-groups-from (suc n) v m h =
-    on _ (a-field _ _) λ more _. then (a-need _ 14 _ refl) λ _ _. on _ (a-field _ _) λ b l.
-    either _
-    (λ _. so (groups-from n (256 * v + b) (m + 8) (byte-more v b m h l)) λ x k. let e : m + 8 + 8 * n ≡ m + 8 * suc n = omega arith in rw e at k)
-    (λ _. gives (byte-wide v b m n h l))
+use Rattle.asc.specs.Asc.{isCore, isFront, objectType, anyType, hertz, frequency, channelConfiguration, unset}
+use Rattle.asc.specs.Asc.{psExtension, psTail, sbrExtension, extensionType, syncExtension, tail, inFront}
+use Rattle.asc.specs.Asc.{gaSpecificConfig, configOf, alone, underFront, audioSpecificConfig}
+use Rattle.numbers.proofs.Given.{Numbered}
 
 -- ---- frequencies, types and flags
 
@@ -62,12 +27,13 @@ abbrev Channelled : ℕ → Type 0
 Channelled c = (1 ≤ c) × (c ≤ 7)
 
 abbrev FlagsOk : Flags → Type 0
-FlagsOk g = (g .frame ≤ 1) × (g .depends ≡ 0) × (g .extension ≡ 0)
+FlagsOk g = (g .flag ≤ 1) × (g .depends ≡ 0) × (g .extension ≡ 0)
 
 module _ (win : Window) where
   object-type : (carried : ℕ → Bool) → Kept Numbered (λ t. carried t ≡ true) (objectType carried win)
   unfolding objectType
-  object-type carried = on _ (a-field _ _) λ t _. either _ (λ _. refuses-after refl) (λ _. then (a-need _ 8 _ refl) λ _ c. gives c)
+  object-type carried =
+      on _ (a-field _ _) λ t _. either _ (λ _. refuses-after refl) (λ _. then (a-need _ 8 _ refl) λ _ c. gives c)
 
   any-type : Kept Numbered Any (anyType win)
   unfolding anyType
@@ -103,7 +69,9 @@ Formed version m = validForm version m ≡ true
 module _ (win : Window) where
   ps-extension : (x : Freq) → validFreq x ≡ true → Kept Numbered (Formed 1) (psExtension x win)
   unfolding psExtension
-  ps-extension x h = on _ (a-field _ _) λ y _. either _ (λ _. on _ (a-field _ _) λ f l. gives (rw (h, le-leb f 1 (omega arith)))) (λ _. gives (rw h))
+  ps-extension x h =
+      on _ (a-field _ _) λ y _. either _ (λ _. on _ (a-field _ _) λ f l. gives (rw (h, le-leb f 1 (omega arith))))
+      (λ _. gives (rw h))
 
   ps-tail : (x : Freq) → validFreq x ≡ true → Kept Numbered (Formed 1) (psTail x win)
   unfolding psTail
@@ -115,7 +83,8 @@ module _ (win : Window) where
 
   extension-type : Kept Numbered (Formed 1) (extensionType win)
   unfolding extensionType
-  extension-type = on _ (any-type win) λ t _. either _ (λ _. sbr-extension) (λ _. either _ (λ _. refuses refl) (λ _. gives refl))
+  extension-type =
+      on _ (any-type win) λ t _. either _ (λ _. sbr-extension) (λ _. either _ (λ _. refuses refl) (λ _. gives refl))
 
   sync-extension : Kept Numbered (Formed 1) (syncExtension win)
   unfolding syncExtension
@@ -140,14 +109,15 @@ in-front : (version t : ℕ) (x : Freq) → validFreq x ≡ true → Formed vers
 in-front version t x h = chosen (Formed version) (eqb t 5) _ _ h h
 
 -- what the parts of a configuration say of it
-whole : (version t : ℕ) (f : Freq) (c : ℕ) (g : Flags) (m : Form) → isCore t ≡ true → validFreq f ≡ true → Channelled c → FlagsOk g → Formed version m
+whole : (version t : ℕ) (f : Freq) (c : ℕ) (g : Flags) (m : Form) → isCore t ≡ true → validFreq f ≡ true
+    → Channelled c → FlagsOk g → Formed version m
     → Configured version (configOf t f c g m)
 whole version t f c g m ht hf hc hg hm =
     let q = both (leb 1 t) (leb t 4) ht in
     config-valid version (configOf t f c g m) (record {
       core = (leb-true 1 t (q .0), leb-true t 4 (q .1));
       channels = hc;
-      frame = hg .0;
+      flag = hg .0;
       depends = hg .1;
       extension = hg .2;
       freq = hf;
@@ -155,11 +125,14 @@ whole version t f c g m ht hf hc hg hm =
     })
 
 module _ (win : Window) where
-  core-alone : (t : ℕ) (f : Freq) (c : ℕ) → isCore t ≡ true → validFreq f ≡ true → Channelled c → Kept Numbered (Configured (versionIn win)) (alone t f c win)
+  core-alone : (t : ℕ) (f : Freq) (c : ℕ) → isCore t ≡ true → validFreq f ≡ true → Channelled c
+      → Kept Numbered (Configured (versionIn win)) (alone t f c win)
   unfolding alone
-  core-alone t f c ht hf hc = on _ (ga-config win) λ g hg. on _ (asc-tail win) λ m hm. gives (whole _ t f c g m ht hf hc hg hm)
+  core-alone t f c ht hf hc =
+      on _ (ga-config win) λ g hg. on _ (asc-tail win) λ m hm. gives (whole _ t f c g m ht hf hc hg hm)
 
-  under-front : (t : ℕ) (f : Freq) (c : ℕ) → validFreq f ≡ true → Channelled c → Kept Numbered (Configured (versionIn win)) (underFront t f c win)
+  under-front : (t : ℕ) (f : Freq) (c : ℕ) → validFreq f ≡ true → Channelled c
+      → Kept Numbered (Configured (versionIn win)) (underFront t f c win)
   unfolding underFront
   under-front t f c hf hc =
       on _ (a-frequency win) λ x hx. on _ (object-type win isCore) λ y hy. on _ (ga-config win) λ g hg.

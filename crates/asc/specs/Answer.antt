@@ -1,11 +1,10 @@
 -- What the answers of the configuration's readers tell.
 use mathlib.Core.Bool.{Bool, cond}
 use Prim.Native.Nat.{ℕ}
-use Rattle.kernel.specs.Answer.{Told, value, refusal, nothing}
+use Rattle.kernel.specs.Answer.{Told, value, refusal}
 use Rattle.records.specs.declared.Freq.{Freq}
 use Rattle.records.specs.declared.Form.{Form}
 use Rattle.records.specs.declared.Config.{Config}
-use Rattle.kernel.specs.declared.Refusal.{Refusal}
 use Rattle.asc.specs.declared.Rated.{Rated}
 use Rattle.asc.specs.declared.Rated.the-variants as rated
 use Rattle.asc.specs.declared.Flags.{Flags}
@@ -18,33 +17,21 @@ use Rattle.asc.specs.declared.Configured.the-variants as configured
 use Rattle.asc.specs.Asc.{isCore, isFront}
 
 abbrev pub toldRated : Rated → Told Freq
-toldRated (rated.Value v c) = value v (c .at) (c .read)
+toldRated (rated.Value r) = value (r .freq) (r .next .at) (r .next .fields)
 toldRated (rated.Refused x) = refusal x
 
 abbrev pub toldFlagged : Flagged → Told Flags
-toldFlagged (flagged.Value v c) = value v (c .at) (c .read)
+toldFlagged (flagged.Value r) = value (r .flags) (r .next .at) (r .next .fields)
 toldFlagged (flagged.Refused x) = refusal x
 
 abbrev pub toldFormed : Formed → Told Form
-toldFormed (formed.Value v c) = value v (c .at) (c .read)
+toldFormed (formed.Value r) = value (r .form) (r .next .at) (r .next .fields)
 toldFormed (formed.Refused x) = refusal x
 
 abbrev pub toldConfigured : Configured → Told Config
-toldConfigured (configured.Value v c) = value v (c .at) (c .read)
+toldConfigured (configured.Value r) = value (r .config) (r .next .at) (r .next .fields)
 toldConfigured (configured.Refused x) = refusal x
 
 -- the types carried: under type 5 or 29, or in front
 abbrev pub carriedIf : Bool → ℕ → Bool
 carriedIf under t = cond under (isCore t) (isFront t)
-
-abbrev pub whyRated : Rated → Refusal
-whyRated (rated.Value v c) = nothing
-whyRated (rated.Refused x) = x
-
-abbrev pub whyFlagged : Flagged → Refusal
-whyFlagged (flagged.Value v c) = nothing
-whyFlagged (flagged.Refused x) = x
-
-abbrev pub whyFormed : Formed → Refusal
-whyFormed (formed.Value v c) = nothing
-whyFormed (formed.Refused x) = x

@@ -118,11 +118,20 @@ gaSpecificConfig win = do
   frame ← field win 1
   depends ← unset win
   extension ← unset win
-  give (record { frame = frame; depends = depends; extension = extension })
+  give (record { flag = frame; depends = depends; extension = extension })
 
 abbrev pub configOf : ℕ → Freq → ℕ → Flags → Form → Config
 configOf t f c g m =
-    record { core = t; freq = f; channels = c; frame = g .frame; depends = g .depends; extension = g .extension; form = m }
+    record {
+      core = t;
+      freq = f;
+      channels = c;
+      flag = g .flag;
+      depends = g .depends;
+      extension = g .extension;
+      form =
+          m;
+    }
 
 -- a core type alone
 unfoldable pub alone : ℕ → Freq → ℕ → Window → Reading Config
@@ -166,4 +175,4 @@ underBits core (FlagPs x f) = []
 unfoldable pub ascBits : Config → List Bool
 ascBits c =
     frontBits (c .core) (c .form) ⧺ freqBits (c .freq) ⧺ bitsOf 4 (c .channels) ⧺ underBits (c .core) (c .form)
-    ⧺ bitsOf 1 (c .frame) ⧺ bitsOf 1 (c .depends) ⧺ bitsOf 1 (c .extension) ⧺ tailBits (c .form)
+    ⧺ bitsOf 1 (c .flag) ⧺ bitsOf 1 (c .depends) ⧺ bitsOf 1 (c .extension) ⧺ tailBits (c .form)

@@ -1,5 +1,5 @@
--- The syntax of AudioSpecificConfig, each production as it is read and as it is written: numbers, the configuration; what code tells; the claims.
-pub mod Values
+-- The syntax of AudioSpecificConfig, each production as it is read and as it is written: the configuration; what code
+-- tells; the claims.
 pub mod Asc
 pub mod Answer
 pub mod Claims

@@ -1,64 +1,85 @@
-// The readers of AudioSpecificConfig and of numbers, one for each production of specs/.
-// Fields of AudioSpecificConfig, which a window may bound, are taken through the bit reader; those of numbers are fetched.
-mod numbers;
+// The readers of AudioSpecificConfig, one for each production of specs/.
+// Its fields, which a window may bound, are taken through the bit reader.
 mod object_types;
 mod rates;
 mod signalling;
 
-pub use numbers::groups_of;
-pub use numbers::latm_get_value;
 pub use signalling::left_of;
 ghost use mathlib.Core.Path.{_≡_};
-ghost use Rattle.kernel.specs.Reading.{Sound};
+ghost use Rattle.kernel.specs.Reading.{Stands};
 ghost use Rattle.kernel.specs.Answer.{toldFetched};
 ghost use Rattle.kernel.specs.Promises.{Tells};
-ghost use Rattle.asc.specs.Asc.{channelConfiguration, unset, inFront, gaSpecificConfig, alone, underFront, audioSpecificConfig};
-ghost use Rattle.asc.specs.Answer.{toldFlagged, toldConfigured, whyFlagged, whyFormed};
+ghost use Rattle.asc.specs.Asc.{channelConfiguration, unset, inFront, gaSpecificConfig, alone, underFront};
+ghost use Rattle.asc.specs.Asc.{audioSpecificConfig};
+ghost use Rattle.asc.specs.Answer.{toldFlagged, toldConfigured};
 use bits::take_at;
 use kernel::Cursor;
 use kernel::Fetched;
 use kernel::Refusal;
 use kernel::Window;
+use kernel::refused_at;
 use kernel::why;
 use object_types::is_core;
 use object_types::object_type;
 use rates::frequency_of;
-use rates::why_rated;
 use records::Config;
 use records::Form;
 use records::Freq;
 use signalling::tail_of;
 
+// A frequency and the cursor behind it.
+pub struct ReadFreq {
+    pub freq: Freq,
+    pub next: Cursor,
+}
+
 pub enum Rated {
-    Value(Freq, Cursor),
+    Value(ReadFreq),
     Refused(Refusal),
 }
 
 // The values of GASpecificConfig.
 pub struct Flags {
-    pub frame: u32,
+    pub flag: u32,
     pub depends: u32,
     pub extension: u32,
 }
 
+pub struct ReadFlags {
+    pub flags: Flags,
+    pub next: Cursor,
+}
+
 pub enum Flagged {
-    Value(Flags, Cursor),
+    Value(ReadFlags),
     Refused(Refusal),
+}
+
+// The form of signalling and the cursor behind it.
+pub struct ReadForm {
+    pub form: Form,
+    pub next: Cursor,
 }
 
 pub enum Formed {
-    Value(Form, Cursor),
+    Value(ReadForm),
     Refused(Refusal),
 }
 
+// A configuration and the cursor behind it.
+pub struct ReadConfig {
+    pub config: Config,
+    pub next: Cursor,
+}
+
 pub enum Configured {
-    Value(Config, Cursor),
+    Value(ReadConfig),
     Refused(Refusal),
 }
 
 fn channels_of(el: &[u8], win: Window, c: Cursor) -> Fetched
-    requires { ⌜ Sound (now el) (c .at) (c .read) ⌝ }
-    ensures { λ r. ⌜ Tells toldFetched (now (el .entry)) (channelConfiguration win) (c .at) (c .read) r ⌝ }
+    requires { ⌜ Stands (now el) (c .at) (c .fields) ⌝ }
+    ensures { λ r. ⌜ Tells toldFetched (now (el .entry)) (channelConfiguration win) (c .at) (c .fields) r ⌝ }
 {
     let place = c.at;
     let four = take_at(el, win, c, 4);
@@ -67,18 +88,14 @@ fn channels_of(el: &[u8], win: Window, c: Cursor) -> Fetched
     };
     match v {
         1..=7 => Fetched::Value(v, c1),
-        _ => Fetched::Refused(Refusal {
-            number: 11,
-            place: place,
-            read: c1.read,
-        }),
+        _ => Fetched::Refused(refused_at(11, place, c1)),
     }
 }
 
 // A flag that must be 0.
 fn unset_of(el: &[u8], win: Window, c: Cursor) -> Fetched
-    requires { ⌜ Sound (now el) (c .at) (c .read) ⌝ }
-    ensures { λ r. ⌜ Tells toldFetched (now (el .entry)) (unset win) (c .at) (c .read) r ⌝ }
+    requires { ⌜ Stands (now el) (c .at) (c .fields) ⌝ }
+    ensures { λ r. ⌜ Tells toldFetched (now (el .entry)) (unset win) (c .at) (c .fields) r ⌝ }
 {
     let place = c.at;
     let one = take_at(el, win, c, 1);
@@ -88,16 +105,12 @@ fn unset_of(el: &[u8], win: Window, c: Cursor) -> Fetched
     if f == 0 {
         return Fetched::Value(f, c1);
     }
-    Fetched::Refused(Refusal {
-        number: 12,
-        place: place,
-        read: c1.read,
-    })
+    Fetched::Refused(refused_at(12, place, c1))
 }
 
 fn flags_of(el: &[u8], win: Window, c: Cursor) -> Flagged
-    requires { ⌜ Sound (now el) (c .at) (c .read) ⌝ }
-    ensures { λ r. ⌜ Tells toldFlagged (now (el .entry)) (gaSpecificConfig win) (c .at) (c .read) r ⌝ }
+    requires { ⌜ Stands (now el) (c .at) (c .fields) ⌝ }
+    ensures { λ r. ⌜ Tells toldFlagged (now (el .entry)) (gaSpecificConfig win) (c .at) (c .fields) r ⌝ }
 {
     let a = take_at(el, win, c, 1);
     let Fetched::Value(frame, c1) = a else {
@@ -111,67 +124,44 @@ fn flags_of(el: &[u8], win: Window, c: Cursor) -> Flagged
     let Fetched::Value(extension, c3) = d else {
         return Flagged::Refused(why(d));
     };
-    Flagged::Value(
-        Flags {
-            frame: frame,
+    Flagged::Value(ReadFlags {
+        flags: Flags {
+            flag: frame,
             depends: depends,
             extension: extension,
         },
-        c3,
-    )
-}
-
-fn why_flagged(f: Flagged) -> Refusal
-    ensures { λ r. ⌜ r ≡ whyFlagged f ⌝ }
-{
-    match f {
-        Flagged::Value(_, _) => Refusal {
-            number: 0,
-            place: 0,
-            read: 0,
-        },
-        Flagged::Refused(x) => x,
-    }
-}
-
-fn why_formed(f: Formed) -> Refusal
-    ensures { λ r. ⌜ r ≡ whyFormed f ⌝ }
-{
-    match f {
-        Formed::Value(_, _) => Refusal {
-            number: 0,
-            place: 0,
-            read: 0,
-        },
-        Formed::Refused(x) => x,
-    }
+        next: c3,
+    })
 }
 
 // A core type alone.
 fn alone_of(el: &[u8], win: Window, c: Cursor, t: u32, f: Freq, channels: u32) -> Configured
-    requires { ⌜ Sound (now el) (c .at) (c .read) ⌝ }
-    ensures { λ r. ⌜ Tells toldConfigured (now (el .entry)) (alone t f channels win) (c .at) (c .read) r ⌝ }
+    requires { ⌜ Stands (now el) (c .at) (c .fields) ⌝ }
+    ensures { λ r. ⌜ Tells toldConfigured (now (el .entry)) (alone t f channels win) (c .at) (c .fields) r ⌝ }
 {
-    let flags = flags_of(el, win, c);
-    let Flagged::Value(g, c1) = flags else {
-        return Configured::Refused(why_flagged(flags));
+    let flagged = match flags_of(el, win, c) {
+        Flagged::Value(r) => r,
+        Flagged::Refused(x) => return Configured::Refused(x),
     };
-    let form = tail_of(el, win, c1);
-    let Formed::Value(m, c2) = form else {
-        return Configured::Refused(why_formed(form));
+    let formed = match tail_of(el, win, flagged.next) {
+        Formed::Value(r) => r,
+        Formed::Refused(x) => return Configured::Refused(x),
     };
-    Configured::Value(
-        Config {
+    let flags = flagged.flags;
+    let form = formed.form;
+    let next = formed.next;
+    Configured::Value(ReadConfig {
+        config: Config {
             core: t,
             freq: f,
             channels: channels,
-            frame: g.frame,
-            depends: g.depends,
-            extension: g.extension,
-            form: m,
+            flag: flags.flag,
+            depends: flags.depends,
+            extension: flags.extension,
+            form: form,
         },
-        c2,
-    )
+        next: next,
+    })
 }
 
 fn in_front(t: u32, x: Freq) -> Form
@@ -185,49 +175,53 @@ fn in_front(t: u32, x: Freq) -> Form
 
 // A core under type 5 or 29.
 fn under_front(el: &[u8], win: Window, c: Cursor, t: u32, f: Freq, channels: u32) -> Configured
-    requires { ⌜ Sound (now el) (c .at) (c .read) ⌝ }
-    ensures { λ r. ⌜ Tells toldConfigured (now (el .entry)) (underFront t f channels win) (c .at) (c .read) r ⌝ }
+    requires { ⌜ Stands (now el) (c .at) (c .fields) ⌝ }
+    ensures { λ r. ⌜ Tells toldConfigured (now (el .entry)) (underFront t f channels win) (c .at) (c .fields) r ⌝ }
 {
-    let freq = frequency_of(el, win, c);
-    let Rated::Value(x, c1) = freq else {
-        return Configured::Refused(why_rated(freq));
+    let rated = match frequency_of(el, win, c) {
+        Rated::Value(r) => r,
+        Rated::Refused(x) => return Configured::Refused(x),
     };
-    let number = object_type(el, win, c1, true);
+    let number = object_type(el, win, rated.next, true);
     let Fetched::Value(core, c2) = number else {
         return Configured::Refused(why(number));
     };
-    let flags = flags_of(el, win, c2);
-    let Flagged::Value(g, c3) = flags else {
-        return Configured::Refused(why_flagged(flags));
+    let flagged = match flags_of(el, win, c2) {
+        Flagged::Value(r) => r,
+        Flagged::Refused(x) => return Configured::Refused(x),
     };
-    let m = in_front(t, x);
-    Configured::Value(
-        Config {
+    let flags = flagged.flags;
+    let x = rated.freq;
+    let form = in_front(t, x);
+    let next = flagged.next;
+    Configured::Value(ReadConfig {
+        config: Config {
             core: core,
             freq: f,
             channels: channels,
-            frame: g.frame,
-            depends: g.depends,
-            extension: g.extension,
-            form: m,
+            flag: flags.flag,
+            depends: flags.depends,
+            extension: flags.extension,
+            form: form,
         },
-        c3,
-    )
+        next: next,
+    })
 }
 
 pub fn audio_specific_config(el: &[u8], win: Window, c: Cursor) -> Configured
-    requires { ⌜ Sound (now el) (c .at) (c .read) ⌝ }
-    ensures { λ r. ⌜ Tells toldConfigured (now (el .entry)) (audioSpecificConfig win) (c .at) (c .read) r ⌝ }
+    requires { ⌜ Stands (now el) (c .at) (c .fields) ⌝ }
+    ensures { λ r. ⌜ Tells toldConfigured (now (el .entry)) (audioSpecificConfig win) (c .at) (c .fields) r ⌝ }
 {
     let number = object_type(el, win, c, false);
     let Fetched::Value(t, c1) = number else {
         return Configured::Refused(why(number));
     };
-    let freq = frequency_of(el, win, c1);
-    let Rated::Value(f, c2) = freq else {
-        return Configured::Refused(why_rated(freq));
+    let rated = match frequency_of(el, win, c1) {
+        Rated::Value(r) => r,
+        Rated::Refused(x) => return Configured::Refused(x),
     };
-    let four = channels_of(el, win, c2);
+    let f = rated.freq;
+    let four = channels_of(el, win, rated.next);
     let Fetched::Value(channels, c3) = four else {
         return Configured::Refused(why(four));
     };

@@ -1,7 +1,7 @@
 // Object types: which are carried, and where.
 ghost use mathlib.Core.Path.{_≡_};
 ghost use Prim.Native.Nat.{_≤_};
-ghost use Rattle.kernel.specs.Reading.{refuseAfter, Sound};
+ghost use Rattle.kernel.specs.Reading.{refuseAfter, Stands};
 ghost use Rattle.kernel.specs.Answer.{toldFetched};
 ghost use Rattle.kernel.specs.Promises.{Tells};
 ghost use Rattle.asc.specs.Asc.{isCore, isFront, objectType, anyType};
@@ -9,8 +9,8 @@ ghost use Rattle.asc.specs.Answer.{carriedIf};
 use bits::take_at;
 use kernel::Cursor;
 use kernel::Fetched;
-use kernel::Refusal;
 use kernel::Window;
+use kernel::refused_at;
 
 pub fn is_core(t: u32) -> bool
     ensures { λ r. ⌜ r ≡ isCore t ⌝ }
@@ -41,24 +41,20 @@ fn carried(under: bool, t: u32) -> bool
 
 // The six more bits of a five-bit type 31, for which no type is carried.
 fn escaped(el: &[u8], win: Window, c: Cursor) -> Fetched
-    requires { ⌜ (5 ≤ c .at) × Sound (now el) (c .at) (c .read) ⌝ }
-    ensures { λ r. ⌜ Tells toldFetched (now (el .entry)) (refuseAfter win 6 8 5) (c .at) (c .read) r ⌝ }
+    requires { ⌜ (5 ≤ c .at) × Stands (now el) (c .at) (c .fields) ⌝ }
+    ensures { λ r. ⌜ Tells toldFetched (now (el .entry)) (refuseAfter win 6 8 5) (c .at) (c .fields) r ⌝ }
 {
     let place = c.at - 5;
     let six = take_at(el, win, c, 6);
     let Fetched::Value(_, c1) = six else {
         return six;
     };
-    Fetched::Refused(Refusal {
-        number: 8,
-        place: place,
-        read: c1.read,
-    })
+    Fetched::Refused(refused_at(8, place, c1))
 }
 
 pub fn object_type(el: &[u8], win: Window, c: Cursor, under: bool) -> Fetched
-    requires { ⌜ Sound (now el) (c .at) (c .read) ⌝ }
-    ensures { λ r. ⌜ Tells toldFetched (now (el .entry)) (objectType (carriedIf under) win) (c .at) (c .read) r ⌝ }
+    requires { ⌜ Stands (now el) (c .at) (c .fields) ⌝ }
+    ensures { λ r. ⌜ Tells toldFetched (now (el .entry)) (objectType (carriedIf under) win) (c .at) (c .fields) r ⌝ }
 {
     let place = c.at;
     let five = take_at(el, win, c, 5);
@@ -71,16 +67,12 @@ pub fn object_type(el: &[u8], win: Window, c: Cursor, under: bool) -> Fetched
     if carried(under, t) {
         return Fetched::Value(t, c1);
     }
-    Fetched::Refused(Refusal {
-        number: 8,
-        place: place,
-        read: c1.read,
-    })
+    Fetched::Refused(refused_at(8, place, c1))
 }
 
 pub fn any_type(el: &[u8], win: Window, c: Cursor) -> Fetched
-    requires { ⌜ Sound (now el) (c .at) (c .read) ⌝ }
-    ensures { λ r. ⌜ Tells toldFetched (now (el .entry)) (anyType win) (c .at) (c .read) r ⌝ }
+    requires { ⌜ Stands (now el) (c .at) (c .fields) ⌝ }
+    ensures { λ r. ⌜ Tells toldFetched (now (el .entry)) (anyType win) (c .at) (c .fields) r ⌝ }
 {
     let five = take_at(el, win, c, 5);
     let Fetched::Value(t, c1) = five else {

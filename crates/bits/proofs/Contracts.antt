@@ -1,4 +1,5 @@
--- The contract of each public function allows one answer, and one content of what is lent. Only a walk can cite that of `take`: `take_at` hands its answer on.
+-- The contract of each public function allows one answer, and one content of what is lent. Only a walk can cite that of
+-- `take`: `take_at` hands its answer on.
 use Rattle.kernel.specs.Promises.{AllowsOne}
 use Rattle.kernel.proofs.Theorems.{fetched-once}
 use Rattle.bits.proofs.take_at.Reads as take-at

@@ -21,17 +21,20 @@ use Rattle.records.specs.Table.{streamsIn}
 use Rattle.records.specs.Valid.{validConfig, validSlot, validStream, validOf}
 use Rattle.records.proofs.Apart.{SlotOk, of-type-0, of-type-1, slot-valid, record-valid}
 use Rattle.records.proofs.Tables.{streams-more, streams-end}
-use Rattle.asc.proofs.Given.{Numbered, Wide, Configured, get-value, groups-from, asc}
+use Rattle.numbers.proofs.Given.{Numbered, Wide, get-value, groups-from}
+use Rattle.asc.proofs.Given.{Configured, asc}
 use Rattle.config.specs.declared.Head.{Head}
 use Rattle.config.specs.declared.Tail.{Tail}
 use Rattle.config.specs.declared.Places.{Places}
-use Rattle.config.specs.Mux.{windowed, configuration, frameLength, sentOrSame, layer, configAt, layers, programs, variantA, muxHead, otherLength, muxTail, noPlaces, recordOf, streamMuxConfig}
+use Rattle.config.specs.Mux.{windowed, configuration, frameLength, sentOrSame, layer, configAt, layers, programs}
+use Rattle.config.specs.Mux.{muxVersionA, muxHead, otherLength, muxTail, noPlaces, recordOf, streamMuxConfig}
 
 -- ---- a stream
 
 in-window : Kept Numbered (Configured 1) windowed
 unfolding windowed
-in-window = on _ get-value λ n _. on _ a-place λ p _. on _ (asc _) λ c h. on _ a-place λ q _. then (a-pass _ _) λ _ _. gives h
+in-window =
+    on _ get-value λ n _. on _ a-place λ p _. on _ (asc _) λ c h. on _ a-place λ q _. then (a-pass _ _) λ _ _. gives h
 
 a-configuration : (version : ℕ) → version ≤ 1 → Kept Numbered (Configured version) (configuration version)
 unfolding configuration
@@ -43,7 +46,7 @@ abbrev Streamed : ℕ → Stream → Type 0
 Streamed version s = validStream version s ≡ true
 
 streamed : (version kind fullness slot : ℕ) (c : Config) → Configured version c → SlotOk kind fullness slot
-    → Streamed version (record { config = c; kind = kind; fullness = fullness; slot = slot })
+    → Streamed version (record { config = c; kind = kind; fullness = fullness; fixed = slot })
 streamed version kind fullness slot c h k = rw (h, slot-valid kind fullness slot k)
 
 frame-length : (version : ℕ) (c : Config) → Configured version c → Kept Numbered (Streamed version) (frameLength c)
@@ -51,17 +54,21 @@ unfolding frameLength
 frame-length version c h =
     on _ (a-field _ _) λ t _.
     either _ (λ _. on _ (a-field _ _) λ v l. gives (streamed version 0 v 0 c h (of-type-0 refl (omega arith) refl)))
-    (λ _. either _ (λ _. on _ (a-field _ _) λ x l. gives (streamed version 1 0 x c h (of-type-1 refl refl (omega arith)))) (λ _. refuses refl))
+    (λ _. either _ (λ _. on _ (a-field _ _) λ x l.
+    gives (streamed version 1 0 x c h (of-type-1 refl refl (omega arith)))) (λ _. refuses refl))
 
-sent-or-same : (version : ℕ) (c : Config) → version ≤ 1 → Configured version c → Kept Numbered (Configured version) (sentOrSame version c)
+sent-or-same : (version : ℕ) (c : Config) → version ≤ 1 → Configured version c
+    → Kept Numbered (Configured version) (sentOrSame version c)
 unfolding sentOrSame
 sent-or-same version c l h = on _ (a-field _ _) λ same _. either _ (λ _. gives h) (λ _. a-configuration version l)
 
 -- the configuration before counts only after the first stream
-a-layer : (version next : ℕ) (c : Config) → version ≤ 1 → ((next ≡ 0 → ⊥) → Configured version c) → Kept Numbered (Streamed version) (layer version next c)
+a-layer : (version next : ℕ) (c : Config) → version ≤ 1 → ((next ≡ 0 → ⊥) → Configured version c)
+    → Kept Numbered (Streamed version) (layer version next c)
 unfolding layer
 a-layer version next c l h =
-    on _ (either _ (λ _. a-configuration version l) (λ e. sent-or-same version c l (h (eqb-false next 0 e)))) λ d k. frame-length version d k
+    on _ (either _ (λ _. a-configuration version l) (λ e. sent-or-same version c l (h (eqb-false next 0 e)))) λ d k.
+    frame-length version d k
 
 -- ---- the streams
 
@@ -71,12 +78,15 @@ record Filled (version next : ℕ) (ss : List Stream) : Type 0 where
   sent : (i : ℕ) → i < next → Streamed version (getD ss i noStream)
   blank : (i : ℕ) → next ≤ i → i < 16 → getD ss i noStream ≡ noStream
 
-config-before : (version next : ℕ) (ss : List Stream) → Filled version next ss → (next ≡ 0 → ⊥) → Configured version (configAt ss (next - 1))
+config-before : (version next : ℕ) (ss : List Stream) → Filled version next ss → (next ≡ 0 → ⊥)
+    → Configured version (configAt ss (next - 1))
 config-before version next ss h n =
     let s = getD ss (next - 1) noStream in
-    both (validConfig version (s .config)) (validSlot (s .kind) (s .fullness) (s .slot)) (h .sent (next - 1) (omega arith)) .0
+    both (validConfig version (s .config)) (validSlot (s .kind) (s .fullness) (s .fixed))
+    (h .sent (next - 1) (omega arith)) .0
 
-filled-more : (version next : ℕ) (ss : List Stream) (s : Stream) → next < 16 → Filled version next ss → Streamed version s → Filled version (next + 1) (set ss next s)
+filled-more : (version next : ℕ) (ss : List Stream) (s : Stream) → next < 16 → Filled version next ss
+    → Streamed version s → Filled version (next + 1) (set ss next s)
 filled-more version next ss s l h k =
     record {
       places = rw length-set (h .places);
@@ -85,8 +95,11 @@ filled-more version next ss s l h k =
     }
   where
     more : (i : ℕ) → i < next + 1 → (t : Bool) → eqb i next ≡ t → Streamed version (getD (set ss next s) i noStream)
-    more i b true e = let q : i ≡ next = eqb-true i next e in rw (q, getD-set-same ss next s noStream (omega (arith, h .places))) k
-    more i b false e = let n : i ≡ next → ⊥ = eqb-false i next e in rw (getD-set-other ss next i s noStream n) (h .sent i (omega arith))
+    more i b true e =
+        let q : i ≡ next = eqb-true i next e in rw (q, getD-set-same ss next s noStream (omega (arith, h .places))) k
+    more i b false e =
+        let n : i ≡ next → ⊥ = eqb-false i next e in
+        rw (getD-set-other ss next i s noStream n) (h .sent i (omega arith))
 
 all-layers : (version n next : ℕ) (ss : List Stream) → version ≤ 1 → next + n ≤ 16 → Filled version next ss
     → Kept Numbered (Filled version (next + n)) (layers version n next ss)
@@ -95,7 +108,8 @@ all-layers version zero next ss l few h = gives (rw add-zero h)
 all-layers version (suc n) next ss l few h =
     on _ (a-layer version next _ l (config-before version next ss h)) λ s k.
     let e : next + suc n ≡ next + 1 + n = omega arith in
-    rw e (all-layers version n (next + 1) (set ss next s) l (omega arith) (filled-more version next ss s (omega arith) h k))
+    rw e (all-layers version n (next + 1) (set ss next s) l (omega arith)
+    (filled-more version next ss s (omega arith) h k))
 
 -- ---- the programs
 
@@ -108,7 +122,8 @@ record Begun (version last p next : ℕ) (g : Places) : Type 0 where
   few : next ≤ 16
   streams : Filled version next (g .streams)
 
-begun-more : (version last p next k : ℕ) (g : Places) (ss : List Stream) → p ≤ last → last ≤ 15 → k < 8 → next + (k + 1) ≤ 16
+begun-more : (version last p next k : ℕ) (g : Places) (ss : List Stream) → p ≤ last → last ≤ 15 → k < 8
+    → next + (k + 1) ≤ 16
     → Begun version last p next g → Filled version (next + (k + 1)) ss
     → Begun version last (p + 1) (next + (k + 1)) (record { layers = set (g .layers) p k; streams = ss })
 begun-more version last p next k g ss l few small count h f =
@@ -122,29 +137,35 @@ begun-more version last p next k g ss l few small count h f =
     }
   where
     more : (q : ℕ) → q < p + 1 → (t : Bool) → eqb q p ≡ t → getD (set (g .layers) p k) q 0 ≤ 7
-    more q b true e = let z : q ≡ p = eqb-true q p e in rw (z, getD-set-same (g .layers) p k 0 (omega (arith, h .places))) (omega arith)
-    more q b false e = let n : q ≡ p → ⊥ = eqb-false q p e in rw (getD-set-other (g .layers) p q k 0 n) (h .sent q (omega arith))
+    more q b true e =
+        let z : q ≡ p = eqb-true q p e in
+        rw (z, getD-set-same (g .layers) p k 0 (omega (arith, h .places))) (omega arith)
+    more q b false e =
+        let n : q ≡ p → ⊥ = eqb-false q p e in rw (getD-set-other (g .layers) p q k 0 n) (h .sent q (omega arith))
 
 -- all of them
 record Placed (version last : ℕ) (g : Places) : Type 0 where
   next : ℕ
   begun : Begun version last (last + 1) next g
 
-all-programs : (version last n p next : ℕ) (g : Places) → version ≤ 1 → last ≤ 15 → p + n ≡ last + 1 → Begun version last p next g
+all-programs : (version last n p next : ℕ) (g : Places) → version ≤ 1 → last ≤ 15 → p + n ≡ last + 1
+    → Begun version last p next g
     → Kept Numbered (Placed version last) (programs version n p next g)
 unfolding programs
-all-programs version last zero p next g l few e h = let q : p ≡ last + 1 = omega arith in gives (record { next = next; begun = rw q at h })
+all-programs version last zero p next g l few e h =
+    let q : p ≡ last + 1 = omega arith in gives (record { next = next; begun = rw q at h })
 all-programs version last (suc n) p next g l few e h =
     on _ (a-field _ _) λ k small. then (a-need _ 7 _ refl) λ _ t.
     let c : next + (k + 1) ≤ 16 = leb-true (next + (k + 1)) 16 t in
     on _ (all-layers version (k + 1) next (g .streams) l c (h .streams)) λ ss f.
-    all-programs version last n (p + 1) (next + (k + 1)) _ l few (omega arith) (begun-more version last p next k g ss (omega arith) few (omega arith) c h f)
+    all-programs version last n (p + 1) (next + (k + 1)) _ l few (omega arith)
+    (begun-more version last p next k g ss (omega arith) few (omega arith) c h f)
 
 -- ---- before and behind them
 
 record HeadOk (h : Head) : Type 0 where
   version : h .version ≤ 1
-  variant : h .variant ≡ 0
+  subversion : h .subversion ≡ 0
   tara : eqb (h .version) 1 ≡ false → h .tara ≡ 0
   wide : Wide 32 (h .tara)
   framing : h .framing ≡ 1
@@ -155,21 +176,25 @@ record HeadOk (h : Head) : Type 0 where
 abbrev Maybe : Bool → ℕ → ℕ → Type 0
 Maybe t w v = (t ≡ false → v ≡ 0) × Wide w v
 
-if-sent : (t : Bool) (w : ℕ) {m : Reading ℕ} → Kept Numbered (Wide w) m → Kept Numbered (Maybe t w) (choose t m (give 0))
-if-sent t w k = either t (λ e. so k λ v h. (λ n. let z : true ≡ false = sym e ∙ n in cc, h)) (λ _. gives (λ _. refl, omega (arith, pow-mono {i = 0} {j = w} (omega arith))))
+if-sent : (t : Bool) (w : ℕ) {m : Reading ℕ} → Kept Numbered (Wide w) m
+    → Kept Numbered (Maybe t w) (choose t m (give 0))
+if-sent t w k =
+    either t (λ e. so k λ v h. (λ n. let z : true ≡ false = sym e ∙ n in cc, h))
+    (λ _. gives (λ _. refl, omega (arith, pow-mono {i = 0} {j = w} (omega arith))))
 
-variant : Kept Numbered (λ a. a ≡ 0) variantA
-unfolding variantA
-variant = on _ (a-field _ _) λ a _. then (a-need _ 5 _ refl) λ _ e. gives (eqb-true a 0 e)
+subversion : Kept Numbered (λ a. a ≡ 0) muxVersionA
+unfolding muxVersionA
+subversion = on _ (a-field _ _) λ a _. then (a-need _ 5 _ refl) λ _ e. gives (eqb-true a 0 e)
 
 head : Kept Numbered HeadOk muxHead
 unfolding muxHead
 head =
-    on _ (a-field _ _) λ v lv. on _ (either _ (λ _. variant) (λ _. gives refl)) λ a z. on _ (if-sent _ 32 get-value) λ t ht.
+    on _ (a-field _ _) λ v lv. on _ (either _ (λ _. subversion) (λ _. gives refl)) λ a z.
+    on _ (if-sent _ 32 get-value) λ t ht.
     on _ (a-field _ _) λ f _. then (a-need _ 6 _ refl) λ _ e. on _ (a-field _ _) λ s ls. on _ (a-field _ _) λ n ln.
     gives (record {
       version = omega arith;
-      variant = z;
+      subversion = z;
       tara = ht .0;
       wide = ht .1;
       framing = eqb-true f 1 e;
@@ -191,7 +216,8 @@ mux-tail : (version : ℕ) → Kept Numbered TailOk (muxTail version)
 unfolding muxTail
 mux-tail version =
     on _ (a-field _ _) λ o lo. on _ (if-sent _ 32 (other-length version)) λ b hb. on _ (a-field _ _) λ c lc.
-    on _ (if-sent _ 8 (a-field _ _)) λ d hd. gives (record { other = omega arith; bits = hb; checked = omega arith; crc = hd })
+    on _ (if-sent _ 8 (a-field _ _)) λ d hd.
+    gives (record { other = omega arith; bits = hb; checked = omega arith; crc = hd })
 
 -- ---- the record
 
@@ -210,17 +236,25 @@ nothing-begun version last = record {
   blank = λ q _ l. getD-replicate 16 q 0 0 l;
   count = refl;
   few = omega arith;
-  streams = record { places = refl; sent = λ i l. absurd (omega arith); blank = λ i _ l. getD-replicate 16 i noStream noStream l };
+  streams =
+      record {
+        places = refl;
+        sent = λ i l. absurd (omega arith);
+        blank = λ i _ l.
+            getD-replicate 16 i noStream noStream l;
+      };
 }
 
-read-ok : (h : Head) (g : Places) (t : Tail) → HeadOk h → Placed (h .version) (h .programs) g → TailOk t → ReadOk (recordOf h g t)
+read-ok : (h : Head) (g : Places) (t : Tail) → HeadOk h → Placed (h .version) (h .programs) g → TailOk t
+    → ReadOk (recordOf h g t)
 read-ok h g t hh hg ht =
     let b = hg .begun in
-    let all : streamsIn (g .layers) (h .programs) 16 ≡ hg .next = streams-end (g .layers) (h .programs) (hh .programs) ∙ b .count in
+    let all : streamsIn (g .layers) (h .programs) 16 ≡ hg .next = streams-end (g .layers) (h .programs) (hh .programs)
+    ∙ b .count in
     record {
       valid = record-valid (recordOf h g t) (record {
         version = hh .version;
-        variant = hh .variant;
+        subversion = hh .subversion;
         tara = hh .tara;
         framing = hh .framing;
         subframes = hh .subframes;
@@ -245,5 +279,6 @@ read-ok h g t hh hg ht =
 pub mux : Kept Numbered ReadOk streamMuxConfig
 unfolding streamMuxConfig
 mux =
-    on _ head λ h hh. on _ (all-programs _ _ _ 0 0 noPlaces (hh .version) (hh .programs) (omega arith) (nothing-begun _ _)) λ g hg. on _ (mux-tail _) λ t ht.
+    on _ head λ h hh. on _ (all-programs _ _ _ 0 0 noPlaces (hh .version) (hh .programs) (omega arith)
+    (nothing-begun _ _)) λ g hg. on _ (mux-tail _) λ t ht.
     gives (read-ok h g t hh hg ht)

@@ -1,10 +1,7 @@
 -- The laws that the proofs of this crate cite, and the theorems.
-pub mod Turns
-pub mod Beside
 pub mod Begun
 pub mod TripMux
 pub mod Given
 pub mod Shortest
 pub mod Said
 pub mod Theorems
-pub mod Contracts

@@ -17,13 +17,15 @@ use Rattle.records.specs.Same.{sameConfig}
 use Rattle.records.specs.Table.{streamsIn}
 use Rattle.records.proofs.Tables.{streams-next}
 use Rattle.records.proofs.Theorems.{same-means-equal, equal-means-same}
-use Rattle.config.specs.Mux.{configBits, frameLengthBits, layerBits, configAt, layersBits, programsBits, muxTailBits, muxBits}
+use Rattle.config.specs.Mux.{configBits, frameLengthBits, layerBits, configAt, layersBits, programsBits}
+use Rattle.config.specs.Mux.{muxTailBits, muxBits}
 use Rattle.config.specs.Claims.{bitsBefore, SaysSame}
 
 -- ---- layers in two runs, and programs
 
 module _ (version : ℕ) (ss : List Stream) where
-  layers-split : (l m next : ℕ) → layersBits version (l + m) next ss ≡ layersBits version l next ss ++ layersBits version m (next + l) ss
+  layers-split : (l m next : ℕ)
+      → layersBits version (l + m) next ss ≡ layersBits version l next ss ++ layersBits version m (next + l) ss
   unfolding layersBits
   layers-split zero m next = rw (zero-add m, add-zero next)
   layers-split (suc l) m next =
@@ -34,13 +36,22 @@ module _ (version : ℕ) (ss : List Stream) where
   module _ (ks : List ℕ) (last : ℕ) where
     programs-split : (p m q : ℕ) → q + p ≤ last + 1
         → programsBits version (p + m) q (streamsIn ks last q) ks ss
-        ≡ programsBits version p q (streamsIn ks last q) ks ss ++ programsBits version m (q + p) (streamsIn ks last (q + p)) ks ss
+        ≡ programsBits version p q (streamsIn ks last q) ks ss
+        ++ programsBits version m (q + p) (streamsIn ks last (q + p)) ks ss
     unfolding programsBits
     programs-split zero m q h = rw (zero-add m, add-zero q)
     programs-split (suc p) m q h =
         let e : suc p + m ≡ suc (p + m) = omega arith in
         let f : q + suc p ≡ q + 1 + p = omega arith in
-        rw (e, f, streams-next ks last q (omega arith), programs-split p m (q + 1) (omega arith), append-assoc, append-assoc)
+        rw (
+          e,
+          f,
+          streams-next ks last q (omega arith),
+          programs-split p m (q + 1)
+              (omega arith),
+          append-assoc,
+          append-assoc,
+        )
 
 -- ---- the first bit of a stream's
 
@@ -48,7 +59,8 @@ record Begins (b : List Bool) (x : Bool) : Type 0 where
   rest : List Bool
   is : b ≡ x ∷ rest
 
-layer-begins : (version i : ℕ) (before : Config) (s : Stream) → 1 ≤ i → Begins (layerBits version i before s) (sameConfig before (s .config))
+layer-begins : (version i : ℕ) (before : Config) (s : Stream) → 1 ≤ i
+    → Begins (layerBits version i before s) (sameConfig before (s .config))
 unfolding layerBits bitsOf odd
 layer-begins version i before s h = rw (ne-eqb i 0 (λ e. omega arith)) (go (sameConfig before (s .config)))
   where
@@ -71,23 +83,29 @@ module _ (r : Record) (p l : ℕ) (hp : p ≤ r .programs) (hl : l ≤ getD (r .
   abbrev behindIt : List Bool
   behindIt =
       layersBits (r .version) (getD (r .layers) p 0 - l) (i + 1) (r .streams)
-      ++ (programsBits (r .version) (r .programs - p) (p + 1) (streamsIn (r .layers) (r .programs) p + (getD (r .layers) p 0 + 1)) (r .layers) (r .streams) ++ muxTailBits r)
+      ++ (programsBits (r .version) (r .programs - p) (p + 1)
+      (streamsIn (r .layers) (r .programs) p + (getD (r .layers) p 0 + 1)) (r .layers) (r .streams) ++ muxTailBits r)
 
   program-is : layersBits (r .version) (getD (r .layers) p 0 + 1) (streamsIn (r .layers) (r .programs) p) (r .streams)
-      ≡ layersBits (r .version) l (streamsIn (r .layers) (r .programs) p) (r .streams) ++ (this ++ layersBits (r .version) (getD (r .layers) p 0 - l) (i + 1) (r .streams))
+      ≡ layersBits (r .version) l (streamsIn (r .layers) (r .programs) p) (r .streams)
+      ++ (this ++ layersBits (r .version) (getD (r .layers) p 0 - l) (i + 1) (r .streams))
   unfolding layersBits
   program-is =
       let e : getD (r .layers) p 0 + 1 ≡ l + suc (getD (r .layers) p 0 - l) = omega arith in
-      rw e (layers-split (r .version) (r .streams) l (suc (getD (r .layers) p 0 - l)) (streamsIn (r .layers) (r .programs) p))
+      rw e (layers-split (r .version) (r .streams) l (suc (getD (r .layers) p 0 - l))
+      (streamsIn (r .layers) (r .programs) p))
 
   programs-are : programsBits (r .version) (r .programs + 1) 0 0 (r .layers) (r .streams)
       ≡ programsBits (r .version) p 0 0 (r .layers) (r .streams)
-      ++ (bitsOf 3 (getD (r .layers) p 0) ++ (layersBits (r .version) (getD (r .layers) p 0 + 1) (streamsIn (r .layers) (r .programs) p) (r .streams)
-      ++ programsBits (r .version) (r .programs - p) (p + 1) (streamsIn (r .layers) (r .programs) p + (getD (r .layers) p 0 + 1)) (r .layers) (r .streams)))
+      ++ (bitsOf 3 (getD (r .layers) p 0)
+      ++ (layersBits (r .version) (getD (r .layers) p 0 + 1) (streamsIn (r .layers) (r .programs) p) (r .streams)
+      ++ programsBits (r .version) (r .programs - p) (p + 1)
+      (streamsIn (r .layers) (r .programs) p + (getD (r .layers) p 0 + 1)) (r .layers) (r .streams)))
   unfolding programsBits streamsIn
   programs-are =
       let e : r .programs + 1 ≡ p + suc (r .programs - p) = omega arith in
-      rw e (rw (zero-add p) at (programs-split (r .version) (r .streams) (r .layers) (r .programs) p (suc (r .programs - p)) 0 (omega arith)))
+      rw e (rw (zero-add p) at (programs-split (r .version) (r .streams) (r .layers) (r .programs) p
+      (suc (r .programs - p)) 0 (omega arith)))
 
   stands : muxBits r ≡ bitsBefore r p l ++ (this ++ behindIt)
   unfolding muxBits

@@ -14,7 +14,8 @@ use Rattle.kernel.specs.Reading.{give, pass, here, choose, _>>=_, _>>_, run}
 use Rattle.kernel.specs.Trip.{Gives, Reads}
 use Rattle.kernel.proofs.Held.{holds-left, holds-right}
 use Rattle.kernel.proofs.Tests.{both}
-use Rattle.kernel.proofs.Trip.{reads-give, reads-here, reads-field, reads-pass, reads-bind, reads-on, reads-then, reads-window, reads-yes, reads-no, reads-need, reads-both, reads-last, reads-maybe}
+use Rattle.kernel.proofs.Trip.{reads-give, reads-here, reads-field, reads-pass, reads-bind, reads-on, reads-then}
+use Rattle.kernel.proofs.Trip.{reads-window, reads-yes, reads-no, reads-need, reads-both, reads-last, reads-maybe}
 use Rattle.records.specs.declared.Config.{Config}
 use Rattle.records.specs.declared.Stream.{Stream}
 use Rattle.records.specs.declared.Record.{Record}
@@ -25,20 +26,24 @@ use Rattle.records.specs.Valid.{validConfig, validSlot, validStream, validOf}
 use Rattle.config.specs.declared.Head.{Head}
 use Rattle.config.specs.declared.Tail.{Tail}
 use Rattle.config.specs.declared.Places.{Places}
-use Rattle.asc.specs.Values.{latmGetValue, valueBits, groupsFrom, groupBits}
+use Rattle.numbers.specs.Values.{latmGetValue, valueBits, groupsFrom, groupBits}
 use Rattle.asc.specs.Asc.{audioSpecificConfig, ascBits}
-use Rattle.config.specs.Mux.{windowed, configuration, configBits, frameLength, frameLengthBits, sentOrSame, layer, layerBits, configAt, layers, layersBits, programs, programsBits, variantA, muxHead, muxHeadBits, otherLength, muxTail, muxTailBits, noPlaces, streamMuxConfig, muxBits}
+use Rattle.config.specs.Mux.{windowed, configuration, configBits, frameLength, frameLengthBits, sentOrSame, layer}
+use Rattle.config.specs.Mux.{layerBits, configAt, layers, layersBits, programs, programsBits, muxVersionA}
+use Rattle.config.specs.Mux.{muxHead, muxHeadBits, otherLength, muxTail, muxTailBits, noPlaces, streamMuxConfig}
+use Rattle.config.specs.Mux.{muxBits}
 use Rattle.records.proofs.Apart.{SlotOk, of-type-0, of-type-1, slot-ok, RecordOk, record-ok}
 use Rattle.records.proofs.Tables.{streams-next, streams-upto, streams-end}
 use Rattle.records.proofs.Theorems.{same-means-equal}
 use Rattle.config.proofs.Begun.{begun, begun-more, begun-last, begun-all}
-use Rattle.asc.proofs.TripValues.{value-trip, groups-trip}
+use Rattle.numbers.proofs.Trip.{value-trip, groups-trip}
 use Rattle.asc.proofs.TripAsc.{asc-short, open-trip, window-trip}
 
 -- ---- a configuration in its window
 
 rest-trip : (c : Config) (p : ℕ) → validConfig 1 c ≡ true
-    → Reads Open p (audioSpecificConfig (UpTo (p + length (ascBits c))) >>= λ x. here >>= λ q. pass Open (p + length (ascBits c) - q) >> give x) (ascBits c) c
+    → Reads Open p (audioSpecificConfig (UpTo (p + length (ascBits c))) >>= λ x. here >>= λ q.
+    pass Open (p + length (ascBits c) - q) >> give x) (ascBits c) c
 rest-trip c p v =
     reads-then _ (reads-window (UpTo (p + length (ascBits c))) (omega arith) (window-trip c p v))
     (reads-here _ (rw sub-self (reads-both (reads-pass [] refl) reads-give)))
@@ -46,25 +51,31 @@ rest-trip c p v =
 pub windowed-trip : (c : Config) (at : ℕ) → validConfig 1 c ≡ true → Reads Open at windowed (configBits 1 c) c
 unfolding windowed configBits
 windowed-trip c at v =
-    reads-bind _ (value-trip at (length (ascBits c)) (omega (arith, asc-short c))) (reads-here _ (rest-trip c (at + length (valueBits (length (ascBits c)))) v))
+    reads-bind _ (value-trip at (length (ascBits c)) (omega (arith, asc-short c)))
+    (reads-here _ (rest-trip c (at + length (valueBits (length (ascBits c)))) v))
 
 -- which leaves no bit of the window
-pub no-fill-trip : (c : Config) (s : List ℕ) (at n : ℕ) → validConfig 1 c ≡ true → Holds s at (configBits 1 c) → at + length (configBits 1 c) ≤ 8 * length s
+pub no-fill-trip : (c : Config) (s : List ℕ) (at n : ℕ) → validConfig 1 c ≡ true → Holds s at (configBits 1 c)
+    → at + length (configBits 1 c) ≤ 8 * length s
     → let len = length (ascBits c) in let p = at + length (valueBits len) in
     Gives (run s latmGetValue at n) len p × Gives (run s (audioSpecificConfig (UpTo (p + len))) p n) c (p + len)
 unfolding configBits
 no-fill-trip c s at n v h l =
     let len = length (ascBits c) in
-    let k : at + length (valueBits len ++ ascBits c) ≡ at + length (valueBits len) + len = simp length-append (omega arith) in (
-      value-trip at len (omega (arith, asc-short c)) .gives s n (holds-left s at (valueBits len) (ascBits c) h) (omega (arith, k)) tt,
-      window-trip c (at + length (valueBits len)) v .gives s n (holds-right s at (valueBits len) (ascBits c) h) (omega (arith, k)) (omega arith),
+    let k : at + length (valueBits len ++ ascBits c)
+    ≡ at + length (valueBits len) + len = simp length-append (omega arith) in (
+      value-trip at len (omega (arith, asc-short c)) .gives s n (holds-left s at (valueBits len) (ascBits c) h)
+          (omega (arith, k)) tt,
+      window-trip c (at + length (valueBits len)) v .gives s n (holds-right s at (valueBits len) (ascBits c) h)
+          (omega (arith, k)) (omega arith),
     )
 
 bare-trip : (c : Config) (at : ℕ) → validConfig 0 c ≡ true → Reads Open at (audioSpecificConfig Open) (configBits 0 c) c
 unfolding configBits
 bare-trip c at v = open-trip c at v
 
-config-trip : (version : ℕ) (c : Config) (at : ℕ) → version ≤ 1 → validConfig version c ≡ true → Reads Open at (configuration version) (configBits version c) c
+config-trip : (version : ℕ) (c : Config) (at : ℕ) → version ≤ 1 → validConfig version c ≡ true
+    → Reads Open at (configuration version) (configBits version c) c
 unfolding configuration
 config-trip version c at l v = go (eqb version 1) refl
   where
@@ -80,101 +91,131 @@ config-trip version c at l v = go (eqb version 1) refl
 -- ---- a stream
 
 slot-trip : (c : Config) (at kind fullness slot : ℕ) → SlotOk kind fullness slot
-    → Reads Open at (frameLength c) (frameLengthBits (record { config = c; kind = kind; fullness = fullness; slot = slot }))
-    (record { config = c; kind = kind; fullness = fullness; slot = slot })
+    → Reads Open at (frameLength c)
+    (frameLengthBits (record { config = c; kind = kind; fullness = fullness; fixed = slot }))
+    (record { config = c; kind = kind; fullness = fullness; fixed = slot })
 unfolding frameLength frameLengthBits
 slot-trip c at kind fullness slot (of-type-0 e l z) =
     rw (e, z) (reads-on 3 0 _ (omega arith) (reads-yes _ refl (reads-last 8 fullness _ (omega arith) reads-give)))
 slot-trip c at kind fullness slot (of-type-1 e z l) =
-    rw (e, z) (reads-on 3 1 _ (omega arith) (reads-no _ refl (reads-yes _ refl (reads-last 9 slot _ (omega arith) reads-give))))
+    rw (e, z) (reads-on 3 1 _ (omega arith)
+    (reads-no _ refl (reads-yes _ refl (reads-last 9 slot _ (omega arith) reads-give))))
 
 -- what is read as the stream before counts only after the first stream
-layer-trip : (version next : ℕ) (before last : Config) (s : Stream) (at : ℕ) → version ≤ 1 → (eqb next 0 ≡ false → before ≡ last)
+layer-trip : (version next : ℕ) (before last : Config) (s : Stream) (at : ℕ) → version ≤ 1
+    → (eqb next 0 ≡ false → before ≡ last)
     → validStream version s ≡ true → Reads Open at (layer version next before) (layerBits version next last s) s
 unfolding layer layerBits sentOrSame
 layer-trip version next before last s at l b v = go (eqb next 0) refl (sameConfig last (s .config)) refl
   where
-    q : (validConfig version (s .config) ≡ true) × (validSlot (s .kind) (s .fullness) (s .slot) ≡ true)
-    q = both (validConfig version (s .config)) (validSlot (s .kind) (s .fullness) (s .slot)) v
+    q : (validConfig version (s .config) ≡ true) × (validSlot (s .kind) (s .fullness) (s .fixed) ≡ true)
+    q = both (validConfig version (s .config)) (validSlot (s .kind) (s .fullness) (s .fixed)) v
 
     slot : (p : ℕ) → Reads Open p (frameLength (s .config)) (frameLengthBits s) s
-    slot p = slot-trip (s .config) p (s .kind) (s .fullness) (s .slot) (slot-ok (s .kind) (s .fullness) (s .slot) (q .1))
+    slot p =
+        slot-trip (s .config) p (s .kind) (s .fullness) (s .fixed) (slot-ok (s .kind) (s .fullness) (s .fixed) (q .1))
 
-    go : (t : Bool) → eqb next 0 ≡ t → (u : Bool) → sameConfig last (s .config) ≡ u → Reads Open at (layer version next before) (layerBits version next last s) s
+    go : (t : Bool) → eqb next 0 ≡ t → (u : Bool) → sameConfig last (s .config) ≡ u
+        → Reads Open at (layer version next before) (layerBits version next last s) s
     go true e u _ = rw e (reads-bind _ (reads-yes _ refl (config-trip version (s .config) at l (q .0))) (slot _))
     go false e true f =
         let z : before ≡ s .config = b e ∙ same-means-equal last (s .config) f in
-        rw (e, f) (reads-bind _ (reads-no _ refl (reads-last 1 1 _ (omega arith) (reads-yes _ refl (rw z reads-give)))) (slot _))
+        rw (e, f) (reads-bind _ (reads-no _ refl
+        (reads-last 1 1 _ (omega arith) (reads-yes _ refl (rw z reads-give)))) (slot _))
     go false e false f =
-        rw (e, f) (reads-bind _ (reads-no _ refl (reads-on 1 0 _ (omega arith) (reads-no _ refl (config-trip version (s .config) (at + 1) l (q .0))))) (slot _))
+        rw (e, f) (reads-bind _ (reads-no _ refl
+        (reads-on 1 0 _ (omega arith) (reads-no _ refl (config-trip version (s .config) (at + 1) l (q .0)))))
+        (slot _))
 
 -- ---- the streams
 
 layers-trip : (version n next : ℕ) (ss : List Stream) (at : ℕ) → version ≤ 1 → length ss ≡ 16 → next + n ≤ 16
     → ((i : ℕ) → i < next + n → validStream version (getD ss i noStream) ≡ true)
-    → Reads Open at (layers version n next (begun noStream next ss)) (layersBits version n next ss) (begun noStream (next + n) ss)
+    → Reads Open at (layers version n next (begun noStream next ss)) (layersBits version n next ss)
+    (begun noStream (next + n) ss)
 unfolding layers layersBits
 layers-trip version zero next ss at l len few v = rw add-zero reads-give
 layers-trip version (suc n) next ss at l len few v =
     let e : next + suc n ≡ next + 1 + n = omega arith in
-    rw e (reads-bind _ (layer-trip version next (configAt (begun noStream next ss) (next - 1)) (configAt ss (next - 1)) (getD ss next noStream) at l
-    (λ z. let k : next ≡ 0 → ⊥ = eqb-false next 0 z in ap (λ (s : Stream). s .config) (begun-last noStream next (next - 1) ss (omega arith) (omega arith) len))
+    rw e (reads-bind _ (layer-trip version next (configAt (begun noStream next ss) (next - 1))
+    (configAt ss (next - 1)) (getD ss next noStream) at l
+    (λ z. let k : next ≡ 0 → ⊥ = eqb-false next 0 z in ap (λ (s : Stream). s .config)
+    (begun-last noStream next (next - 1) ss (omega arith) (omega arith) len))
     (v next (omega arith)))
-    (rw (begun-more noStream next ss (omega arith) len) (layers-trip version n (next + 1) ss _ l len (omega arith) (λ i k. v i (omega arith)))))
+    (rw (begun-more noStream next ss (omega arith) len)
+    (layers-trip version n (next + 1) ss _ l len (omega arith) (λ i k. v i (omega arith)))))
 
 -- ---- the programs
 
-module _ (version last : ℕ) (ks : List ℕ) (ss : List Stream) (l : version ≤ 1) (kl : length ks ≡ 16) (sl : length ss ≡ 16) (few : last ≤ 15)
+module _ (version last : ℕ) (ks : List ℕ) (ss : List Stream) (l : version ≤ 1) (kl : length ks ≡ 16) (sl : length ss
+    ≡ 16) (few : last ≤ 15)
     (small : (p : ℕ) → p ≤ last → getD ks p 0 ≤ 7) (count : streamsIn ks last 16 ≤ 16)
     (valid : (i : ℕ) → i < streamsIn ks last 16 → validStream version (getD ss i noStream) ≡ true) where
   placesTo : ℕ → Places
   placesTo p = record { layers = begun 0 p ks; streams = begun noStream (streamsIn ks last p) ss }
 
   programs-trip : (n p at : ℕ) → p + n ≡ last + 1
-      → Reads Open at (programs version n p (streamsIn ks last p) (placesTo p)) (programsBits version n p (streamsIn ks last p) ks ss) (placesTo (last + 1))
+      → Reads Open at (programs version n p (streamsIn ks last p) (placesTo p))
+      (programsBits version n p (streamsIn ks last p) ks ss) (placesTo (last + 1))
   unfolding programs programsBits placesTo
   programs-trip zero p at e = let q : last + 1 ≡ p = omega arith in rw q reads-give
   programs-trip (suc n) p at e =
       let k = getD ks p 0 in
       let more : streamsIn ks last p + (k + 1) ≡ streamsIn ks last (p + 1) = streams-next ks last p (omega arith) in
       let all : streamsIn ks last (p + 1) ≤ streamsIn ks last 16 = streams-upto ks last (p + 1) 16 (omega arith) in
-      reads-on 3 k _ (omega (arith, small p (omega arith))) (reads-need 7 3 (le-leb (streamsIn ks last p + (k + 1)) 16 (omega arith))
-      (reads-bind _ (layers-trip version (k + 1) (streamsIn ks last p) ss (at + 3) l sl (omega arith) (λ i h. valid i (omega arith)))
+      reads-on 3 k _ (omega (arith, small p (omega arith)))
+      (reads-need 7 3 (le-leb (streamsIn ks last p + (k + 1)) 16 (omega arith))
+      (reads-bind _ (layers-trip version (k + 1) (streamsIn ks last p) ss (at + 3) l sl (omega arith)
+      (λ i h. valid i (omega arith)))
       (rw (more, begun-more 0 p ks (omega arith) kl) (programs-trip n (p + 1) _ (omega arith)))))
 
 -- ---- what stands before and behind them
 
 headOf : Record → Head
 headOf r =
-    record { version = r .version; variant = r .variant; tara = r .tara; framing = r .framing; subframes = r .subframes; programs = r .programs }
+    record {
+      version = r .version;
+      subversion = r .subversion;
+      tara = r .tara;
+      framing = r .framing;
+      subframes =
+          r .subframes;
+      programs = r .programs;
+    }
 
 tailOf : Record → Tail
 tailOf r = record { other = r .other; bits = r .bits; checked = r .checked; crc = r .crc }
 
-variant-trip : (at a : ℕ) → a ≡ 0 → Reads Open at variantA (bitsOf 1 a) a
-unfolding variantA
-variant-trip at a e = reads-last 1 a _ (omega arith) (reads-need 5 1 (eq-eqb a 0 e) reads-give)
+subversion-trip : (at a : ℕ) → a ≡ 0 → Reads Open at muxVersionA (bitsOf 1 a) a
+unfolding muxVersionA
+subversion-trip at a e = reads-last 1 a _ (omega arith) (reads-need 5 1 (eq-eqb a 0 e) reads-give)
 
 head-trip : (r : Record) (at : ℕ) → RecordOk r → r .tara < 2 ^ 32 → Reads Open at muxHead (muxHeadBits r) (headOf r)
 unfolding muxHead muxHeadBits headOf
 head-trip r at h l =
     reads-on 1 (r .version) _ (omega (arith, h .version))
-    (reads-bind _ (reads-maybe (eqb (r .version) 1) 0 (λ _. variant-trip (at + 1) (r .variant) (h .variant)) (λ _. h .variant))
+    (reads-bind _ (reads-maybe (eqb (r .version) 1) 0 (λ _. subversion-trip (at + 1) (r .subversion) (h .subversion))
+    (λ _. h .subversion))
     (reads-bind _ (reads-maybe (eqb (r .version) 1) 0 (λ _. value-trip _ (r .tara) l) (h .tara))
     (reads-on 1 (r .framing) _ (omega (arith, h .framing)) (reads-need 6 1 (eq-eqb (r .framing) 1 (h .framing))
-    (reads-on 6 (r .subframes) _ (omega (arith, h .subframes)) (reads-last 4 (r .programs) _ (omega (arith, h .programs)) reads-give))))))
+    (reads-on 6 (r .subframes) _ (omega (arith, h .subframes))
+    (reads-last 4 (r .programs) _ (omega (arith, h .programs)) reads-give))))))
 
-length-trip : (at v : ℕ) (t : Bool) → v < 2 ^ 32 → Reads Open at (choose t latmGetValue (groupsFrom 4 0)) (cond t (valueBits v) (groupBits v)) v
+length-trip : (at v : ℕ) (t : Bool) → v < 2 ^ 32
+    → Reads Open at (choose t latmGetValue (groupsFrom 4 0)) (cond t (valueBits v) (groupBits v)) v
 length-trip at v true l = reads-yes _ refl (value-trip at v l)
 length-trip at v false l = reads-no _ refl (groups-trip at v l)
 
-tail-trip : (r : Record) (at : ℕ) → RecordOk r → r .bits < 2 ^ 32 → Reads Open at (muxTail (r .version)) (muxTailBits r) (tailOf r)
+tail-trip : (r : Record) (at : ℕ) → RecordOk r → r .bits < 2 ^ 32
+    → Reads Open at (muxTail (r .version)) (muxTailBits r) (tailOf r)
 unfolding muxTail muxTailBits otherLength tailOf
 tail-trip r at h l =
     reads-on 1 (r .other) _ (omega (arith, h .other))
-    (reads-bind _ (reads-maybe (eqb (r .other) 1) 0 (λ _. length-trip (at + 1) (r .bits) (eqb (r .version) 1) l) (h .bits))
+    (reads-bind _ (reads-maybe (eqb (r .other) 1) 0 (λ _. length-trip (at + 1) (r .bits) (eqb (r .version) 1) l)
+    (h .bits))
     (reads-on 1 (r .checked) _ (omega (arith, h .checked))
-    (reads-then _ (reads-maybe (eqb (r .checked) 1) 0 (λ _. reads-field 8 (r .crc) (omega (arith, h .crc))) (h .unchecked)) reads-give)))
+    (reads-then _ (reads-maybe (eqb (r .checked) 1) 0 (λ _. reads-field 8 (r .crc) (omega (arith, h .crc)))
+    (h .unchecked)) reads-give)))
 
 -- ---- the record
 
@@ -187,16 +228,22 @@ places-trip : (r : Record) (at : ℕ) → length (r .layers) ≡ 16 → length (
 unfolding begun streamsIn placesTo placesOf
 places-trip r at kl sl h =
     let n = r .programs in
-    let ks : begun 0 (n + 1) (r .layers) ≡ r .layers = begun-all 0 (n + 1) (r .layers) kl (λ i k. h .no-layers i (omega arith)) in
+    let ks : begun 0 (n + 1) (r .layers)
+    ≡ r .layers = begun-all 0 (n + 1) (r .layers) kl (λ i k. h .no-layers i (omega arith)) in
     let ss : begun noStream (streamsIn (r .layers) n (n + 1)) (r .streams) ≡ r .streams =
-    rw (← streams-end (r .layers) n (h .programs)) (begun-all noStream (streamsIn (r .layers) n 16) (r .streams) sl (h .no-streams)) in
-    subst (λ (g : Places). Reads Open at (programs (r .version) (n + 1) 0 0 noPlaces) (programsBits (r .version) (n + 1) 0 0 (r .layers) (r .streams)) g)
+    rw (← streams-end (r .layers) n (h .programs))
+    (begun-all noStream (streamsIn (r .layers) n 16) (r .streams) sl (h .no-streams)) in
+    subst (λ (g : Places). Reads Open at (programs (r .version) (n + 1) 0 0 noPlaces)
+    (programsBits (r .version) (n + 1) 0 0 (r .layers) (r .streams)) g)
     (λ i. record { layers = ks i; streams = ss i })
-    (programs-trip (r .version) n (r .layers) (r .streams) (h .version) kl sl (h .programs) (h .layers) (h .count) (h .streams) (n + 1) 0 at (omega arith))
+    (programs-trip (r .version) n (r .layers) (r .streams) (h .version) kl sl (h .programs) (h .layers) (h .count)
+    (h .streams) (n + 1) 0 at (omega arith))
 
-pub record-trip : (r : Record) (at : ℕ) → length (r .layers) ≡ 16 → length (r .streams) ≡ 16 → r .tara < 2 ^ 32 → r .bits < 2 ^ 32 → validOf r ≡ true
+pub record-trip : (r : Record) (at : ℕ) → length (r .layers) ≡ 16 → length (r .streams) ≡ 16 → r .tara < 2 ^ 32
+    → r .bits < 2 ^ 32 → validOf r ≡ true
     → Reads Open at streamMuxConfig (muxBits r) r
 unfolding streamMuxConfig muxBits headOf placesOf tailOf
 record-trip r at kl sl tara bits v =
     let h = record-ok r v in
-    reads-bind _ (head-trip r at h tara) (reads-bind _ (places-trip r _ kl sl h) (reads-then _ (tail-trip r _ h bits) reads-give))
+    reads-bind _ (head-trip r at h tara)
+    (reads-bind _ (places-trip r _ kl sl h) (reads-then _ (tail-trip r _ h bits) reads-give))

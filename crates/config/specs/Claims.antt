@@ -9,21 +9,15 @@ use Rattle.kernel.specs.Reading.{gave, run}
 use Rattle.kernel.specs.Trip.{Reads, Gives}
 use Rattle.kernel.specs.Exactly.{Exactly}
 use Rattle.kernel.specs.Bits.{bitsOf, _⧺_, Holds}
-use Rattle.kernel.specs.Promises.{TellsOnce}
 use Rattle.records.specs.declared.Config.{Config}
-use Rattle.records.specs.declared.Stream.{Stream}
 use Rattle.records.specs.declared.Record.{Record}
 use Rattle.records.specs.Blank.{noStream}
 use Rattle.records.specs.Table.{streamsIn}
 use Rattle.records.specs.Valid.{validConfig, validOf}
-use Rattle.asc.specs.Values.{latmGetValue, valueBits}
+use Rattle.numbers.specs.Values.{latmGetValue, valueBits}
 use Rattle.asc.specs.Asc.{audioSpecificConfig, ascBits}
-use Rattle.config.specs.declared.Mux.{Mux}
-use Rattle.config.specs.Mux.{windowed, configBits, layerBits, configAt, layersBits, programsBits, muxHeadBits, streamMuxConfig, muxBits}
-use Rattle.config.specs.Answer.{toldStreamed, toldHeaded, toldTailed}
-use Rattle.config.specs.declared.Filled.{Filled}
-use Rattle.config.specs.declared.Placed.{Placed}
-use Rattle.config.specs.Promises.{LayersPromise, ProgramsPromise, MuxPromise}
+use Rattle.config.specs.Mux.{windowed, configBits, layerBits, configAt, layersBits, programsBits, muxHeadBits}
+use Rattle.config.specs.Mux.{streamMuxConfig, muxBits}
 
 -- a valid configuration reads back behind its ascLen
 abbrev pub WindowedReadsBack : Type 0
@@ -31,24 +25,33 @@ WindowedReadsBack = (c : Config) (at : ℕ) → validConfig 1 c ≡ true → Rea
 
 -- what is written of a valid record reads back to it; an array has 16 places, and a u32 has 32 bits
 abbrev pub RecordReadsBack : Type 0
-RecordReadsBack = (r : Record) (at : ℕ) → length (r .layers) ≡ 16 → length (r .streams) ≡ 16 → r .tara < 2 ^ 32 → r .bits < 2 ^ 32 → validOf r ≡ true
+RecordReadsBack =
+    (r : Record) (at : ℕ) → length (r .layers) ≡ 16 → length (r .streams) ≡ 16 → r .tara < 2 ^ 32 → r .bits < 2 ^ 32
+    → validOf r ≡ true
     → Reads Open at streamMuxConfig (muxBits r) r
 
 -- and it is the shortest: wherever a reading gives the record, it has read no fewer bits
 abbrev pub RecordIsShortest : Type 0
-RecordIsShortest = (s : List ℕ) (at n : ℕ) (r : Record) (to m : ℕ) → run s streamMuxConfig at n ≡ gave r to m → at + length (muxBits r) ≤ to
+RecordIsShortest =
+    (s : List ℕ) (at n : ℕ) (r : Record) (to m : ℕ) → run s streamMuxConfig at n ≡ gave r to m
+    → at + length (muxBits r) ≤ to
 
 -- what is read is a record that 16 does not refuse,
 abbrev pub ReadIsValid : Type 0
-ReadIsValid = (s : List ℕ) (at n : ℕ) (r : Record) (p m : ℕ) → run s streamMuxConfig at n ≡ gave r p m → validOf r ≡ true
+ReadIsValid =
+    (s : List ℕ) (at n : ℕ) (r : Record) (p m : ℕ) → run s streamMuxConfig at n ≡ gave r p m → validOf r ≡ true
 
 -- and it reads back wherever it is written
 abbrev pub ReadReadsBack : Type 0
-ReadReadsBack = (s : List ℕ) (at n : ℕ) (r : Record) (p m : ℕ) → run s streamMuxConfig at n ≡ gave r p m → (to : ℕ) → Reads Open to streamMuxConfig (muxBits r) r
+ReadReadsBack =
+    (s : List ℕ) (at n : ℕ) (r : Record) (p m : ℕ) → run s streamMuxConfig at n ≡ gave r p m → (to : ℕ)
+    → Reads Open to streamMuxConfig (muxBits r) r
 
 -- no fill: the window that ascLen gives ends where the configuration in it does
 abbrev pub NoFill : Type 0
-NoFill = (c : Config) (s : List ℕ) (at n : ℕ) → validConfig 1 c ≡ true → Holds s at (configBits 1 c) → at + length (configBits 1 c) ≤ 8 * length s
+NoFill =
+    (c : Config) (s : List ℕ) (at n : ℕ) → validConfig 1 c ≡ true → Holds s at (configBits 1 c)
+    → at + length (configBits 1 c) ≤ 8 * length s
     → let len = length (ascBits c) in let p = at + length (valueBits len) in
     Gives (run s latmGetValue at n) len p × Gives (run s (audioSpecificConfig (UpTo (p + len))) p n) c (p + len)
 
@@ -58,7 +61,8 @@ bitsBefore r p l =
     muxHeadBits r ⧺ programsBits (r .version) p 0 0 (r .layers) (r .streams)
     ⧺ bitsOf 3 (getD (r .layers) p 0) ⧺ layersBits (r .version) l (streamsIn (r .layers) (r .programs) p) (r .streams)
 
--- there stands what is written of stream i, and its first bit, useSameConfig, is 1 exactly where its configuration equals the one before
+-- there stands what is written of stream i, and its first bit, useSameConfig, is 1 exactly where its configuration
+-- equals the one before
 pub record SaysSame (r : Record) (p l i : ℕ) : Type 0 where
   pub same : Bool
   pub more : List Bool
@@ -71,24 +75,3 @@ pub record SaysSame (r : Record) (p l i : ℕ) : Type 0 where
 abbrev pub SameWhereEqual : Type 0
 SameWhereEqual = (r : Record) (p l : ℕ) → p ≤ r .programs → l ≤ getD (r .layers) p 0
     → let i = streamsIn (r .layers) (r .programs) p + l in 1 ≤ i → SaysSame r p l i
-
--- each promise allows one answer, and one content of the table lent
-abbrev pub StreamedOnce : Type 0
-StreamedOnce = TellsOnce toldStreamed
-
-abbrev pub HeadedOnce : Type 0
-HeadedOnce = TellsOnce toldHeaded
-
-abbrev pub TailedOnce : Type 0
-TailedOnce = TellsOnce toldTailed
-
-abbrev pub LayersOnce : Type 0
-LayersOnce = (version k next : ℕ) (streams : List Stream) (s : List ℕ) (at n : ℕ) (x y : Filled)
-    → LayersPromise version k next streams s at n x → LayersPromise version k next streams s at n y → x ≡ y
-
-abbrev pub ProgramsOnce : Type 0
-ProgramsOnce = (version last : ℕ) (s : List ℕ) (at n : ℕ) (x y : Placed) (t t₁ t₂ : List (List ℕ))
-    → ProgramsPromise version last s at n t x t₁ → ProgramsPromise version last s at n t y t₂ → (x ≡ y) × (t₁ ≡ t₂)
-
-abbrev pub MuxOnce : Type 0
-MuxOnce = (s : List ℕ) (at n : ℕ) (x y : Mux) (t t₁ t₂ : List (List ℕ)) → MuxPromise s at n t x t₁ → MuxPromise s at n t y t₂ → (x ≡ y) × (t₁ ≡ t₂)

@@ -1,5 +1,3 @@
--- The syntax of StreamMuxConfig, each production as it is read and as it is written; what code tells and promises; the claims.
+-- The syntax of StreamMuxConfig, each production as it is read and as it is written; the claims.
 pub mod Mux
-pub mod Answer
-pub mod Promises
 pub mod Claims

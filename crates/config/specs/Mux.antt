@@ -15,7 +15,7 @@ use Rattle.records.specs.Same.{sameConfig}
 use Rattle.config.specs.declared.Head.{Head}
 use Rattle.config.specs.declared.Tail.{Tail}
 use Rattle.config.specs.declared.Places.{Places}
-use Rattle.asc.specs.Values.{latmGetValue, valueBits, groupsFrom, groupBits}
+use Rattle.numbers.specs.Values.{latmGetValue, valueBits, groupsFrom, groupBits}
 use Rattle.asc.specs.Asc.{audioSpecificConfig, ascBits}
 
 -- version 1: ascLen, the configuration in that many bits, and fill up to them
@@ -38,11 +38,12 @@ configBits version c = cond (eqb version 1) (valueBits (length (ascBits c)) ⧺ 
 unfoldable pub frameLength : Config → Reading Stream
 frameLength c = do
   t ← field Open 3
-  choose (eqb t 0) (field Open 8 >>= λ v. give (record { config = c; kind = 0; fullness = v; slot = 0 }))
-      (choose (eqb t 1) (field Open 9 >>= λ l. give (record { config = c; kind = 1; fullness = 0; slot = l })) (refuse 13 3))
+  choose (eqb t 0) (field Open 8 >>= λ v. give (record { config = c; kind = 0; fullness = v; fixed = 0 }))
+      (choose (eqb t 1) (field Open 9 >>= λ l. give (record { config = c; kind = 1; fullness = 0; fixed = l }))
+      (refuse 13 3))
 
 unfoldable pub frameLengthBits : Stream → List Bool
-frameLengthBits s = bitsOf 3 (s .kind) ⧺ cond (eqb (s .kind) 0) (bitsOf 8 (s .fullness)) (bitsOf 9 (s .slot))
+frameLengthBits s = bitsOf 3 (s .kind) ⧺ cond (eqb (s .kind) 0) (bitsOf 8 (s .fullness)) (bitsOf 9 (s .fixed))
 
 -- useSameConfig: that of the stream just before in reading order; stream 0 sends none
 unfoldable pub sentOrSame : ℕ → Config → Reading Config
@@ -58,7 +59,8 @@ layer version next before = do
 
 unfoldable pub layerBits : ℕ → ℕ → Config → Stream → List Bool
 layerBits version next before s =
-    cond (eqb next 0) (configBits version (s .config)) (cond (sameConfig before (s .config)) (bitsOf 1 1) (bitsOf 1 0 ⧺ configBits version (s .config)))
+    cond (eqb next 0) (configBits version (s .config))
+    (cond (sameConfig before (s .config)) (bitsOf 1 1) (bitsOf 1 0 ⧺ configBits version (s .config)))
     ⧺ frameLengthBits s
 
 abbrev pub configAt : List Stream → ℕ → Config
@@ -74,7 +76,8 @@ layers version (suc n) next streams = do
 unfoldable pub layersBits : ℕ → ℕ → ℕ → List Stream → List Bool
 layersBits version zero next streams = []
 layersBits version (suc n) next streams =
-    layerBits version next (configAt streams (next - 1)) (getD streams next noStream) ⧺ layersBits version n (next + 1) streams
+    layerBits version next (configAt streams (next - 1)) (getD streams next noStream)
+    ⧺ layersBits version n (next + 1) streams
 
 -- n programs from program p on, of which the first layer is stream `next`; at most 16 streams
 unfoldable pub programs : ℕ → ℕ → ℕ → ℕ → Places → Reading Places
@@ -88,11 +91,12 @@ programs version (suc n) p next places = do
 unfoldable pub programsBits : ℕ → ℕ → ℕ → ℕ → List ℕ → List Stream → List Bool
 programsBits version zero p next ks streams = []
 programsBits version (suc n) p next ks streams =
-    bitsOf 3 (getD ks p 0) ⧺ layersBits version (getD ks p 0 + 1) next streams ⧺ programsBits version n (p + 1) (next + (getD ks p 0 + 1)) ks streams
+    bitsOf 3 (getD ks p 0) ⧺ layersBits version (getD ks p 0 + 1) next streams
+    ⧺ programsBits version n (p + 1) (next + (getD ks p 0 + 1)) ks streams
 
 -- audioMuxVersionA, of version 1
-unfoldable pub variantA : Reading ℕ
-variantA = do
+unfoldable pub muxVersionA : Reading ℕ
+muxVersionA = do
   a ← field Open 1
   need (eqb a 0) 5 1
   give a
@@ -101,17 +105,25 @@ variantA = do
 unfoldable pub muxHead : Reading Head
 muxHead = do
   version ← field Open 1
-  variant ← choose (eqb version 1) variantA (give 0)
+  subversion ← choose (eqb version 1) muxVersionA (give 0)
   tara ← choose (eqb version 1) latmGetValue (give 0)
   framing ← field Open 1
   need (eqb framing 1) 6 1
   subframes ← field Open 6
   n ← field Open 4
-  give (record { version = version; variant = variant; tara = tara; framing = framing; subframes = subframes; programs = n })
+  give (record {
+    version = version;
+    subversion = subversion;
+    tara = tara;
+    framing = framing;
+    subframes = subframes;
+    programs = n;
+  })
 
 unfoldable pub muxHeadBits : Record → List Bool
 muxHeadBits r =
-    bitsOf 1 (r .version) ⧺ cond (eqb (r .version) 1) (bitsOf 1 (r .variant)) [] ⧺ cond (eqb (r .version) 1) (valueBits (r .tara)) []
+    bitsOf 1 (r .version) ⧺ cond (eqb (r .version) 1) (bitsOf 1 (r .subversion)) []
+    ⧺ cond (eqb (r .version) 1) (valueBits (r .tara)) []
     ⧺ bitsOf 1 (r .framing) ⧺ bitsOf 6 (r .subframes) ⧺ bitsOf 4 (r .programs)
 
 unfoldable pub otherLength : ℕ → Reading ℕ
@@ -128,7 +140,8 @@ muxTail version = do
 
 unfoldable pub muxTailBits : Record → List Bool
 muxTailBits r =
-    bitsOf 1 (r .other) ⧺ cond (eqb (r .other) 1) (cond (eqb (r .version) 1) (valueBits (r .bits)) (groupBits (r .bits))) []
+    bitsOf 1 (r .other) ⧺ cond (eqb (r .other) 1)
+    (cond (eqb (r .version) 1) (valueBits (r .bits)) (groupBits (r .bits))) []
     ⧺ bitsOf 1 (r .checked) ⧺ cond (eqb (r .checked) 1) (bitsOf 8 (r .crc)) []
 
 abbrev pub noPlaces : Places
@@ -137,7 +150,7 @@ noPlaces = record { layers = replicate 16 0; streams = replicate 16 noStream }
 abbrev pub recordOf : Head → Places → Tail → Record
 recordOf h g t = record {
   version = h .version;
-  variant = h .variant;
+  subversion = h .subversion;
   tara = h .tara;
   framing = h .framing;
   subframes = h .subframes;

@@ -3,19 +3,11 @@ use mathlib.Core.Path.{sym, _∙_}
 use denote.Ref.{now}
 use Rattle.kernel.specs.Promises.{AllowsOne, AllowsOneOfBytes}
 use Rattle.kernel.proofs.Theorems.{put-fixes-all}
-use Rattle.config_writer.proofs.values.put_value.Reads as put-value
-use Rattle.config_writer.proofs.values.put_groups.Reads as put-groups
-use Rattle.config_writer.proofs.values.put_if.Reads as put-if
-use Rattle.config_writer.proofs.values.put_value_if.Reads as put-value-if
+use Rattle.config_writer.proofs.present.put_if.Reads as put-if
+use Rattle.config_writer.proofs.present.put_value_if.Reads as put-value-if
 use Rattle.config_writer.proofs.audio.put_asc.Reads as put-asc
 use Rattle.config_writer.proofs.audio.asc_length.Reads as asc-length
 use Rattle.config_writer.proofs.put_mux.Reads as put-mux
-
-pub put-value-allows-one : AllowsOneOfBytes put-value.Learnt (λ k e. now (e .0))
-put-value-allows-one k a x y e f g h p q = put-fixes-all _ _ _ _ _ x y g h (p .1) (q .1)
-
-pub put-groups-allows-one : AllowsOneOfBytes put-groups.Learnt (λ k e. now (e .0))
-put-groups-allows-one k a x y e f g h p q = put-fixes-all _ _ _ _ _ x y g h (p .1) (q .1)
 
 pub put-if-allows-one : AllowsOneOfBytes put-if.Learnt (λ k e. now (e .0))
 put-if-allows-one k a x y e f g h p q = put-fixes-all _ _ _ _ _ x y g h (p .1) (q .1)

@@ -10,7 +10,7 @@ use records::Form;
 use records::Freq;
 
 fn put_freq(out: &mut [u8], at: usize, f: Freq) -> usize
-    requires { ⌜ at ≤ 900000 ⌝ }
+    requires { ⌜ at + 28 ≤ 1000000 ⌝ }
     ensures { λ r. ⌜ (r ≤ at + 28) × Put (now (out .entry)) at (freqBits f) (now (out .exit)) r ⌝ }
 {
     match f {
@@ -38,7 +38,7 @@ fn front_of(core: u32, form: Form) -> u32
 
 // Behind type 5 or 29: the frequency of SBR, and the core.
 fn put_under(out: &mut [u8], at: usize, core: u32, form: Form) -> usize
-    requires { ⌜ at ≤ 800000 ⌝ }
+    requires { ⌜ at + 33 ≤ 1000000 ⌝ }
     ensures { λ r. ⌜ (r ≤ at + 33) × Put (now (out .entry)) at (underBits core form) (now (out .exit)) r ⌝ }
 {
     match form {
@@ -58,18 +58,21 @@ fn put_under(out: &mut [u8], at: usize, core: u32, form: Form) -> usize
 }
 
 fn put_flags(out: &mut [u8], at: usize, c: Config) -> usize
-    requires { ⌜ at ≤ 900000 ⌝ }
-    ensures { λ r. ⌜ (r ≡ at + 3) × Put (now (out .entry)) at (bitsOf 1 (c .frame) ⧺ bitsOf 1 (c .depends) ⧺ bitsOf 1 (c .extension)) (now (out .exit)) r ⌝ }
+    requires { ⌜ at + 3 ≤ 1000000 ⌝ }
+    ensures { λ r. ⌜ (r ≡ at + 3)
+        × Put (now (out .entry)) at (bitsOf 1 (c .flag) ⧺ bitsOf 1 (c .depends)
+        ⧺ bitsOf 1 (c .extension)) (now (out .exit)) r ⌝ }
 {
-    let depends = put(out, at, 1, c.frame);
+    let depends = put(out, at, 1, c.flag);
     let extension = put(out, depends, 1, c.depends);
     put(out, extension, 1, c.extension)
 }
 
 // 0x2B7, type 5 and sbrPresentFlag.
 fn put_sbr(out: &mut [u8], at: usize, flag: u32) -> usize
-    requires { ⌜ at ≤ 900000 ⌝ }
-    ensures { λ r. ⌜ (r ≡ at + 17) × Put (now (out .entry)) at (bitsOf 11 695 ⧺ bitsOf 5 5 ⧺ bitsOf 1 flag) (now (out .exit)) r ⌝ }
+    requires { ⌜ at + 17 ≤ 1000000 ⌝ }
+    ensures { λ r. ⌜ (r ≡ at + 17)
+        × Put (now (out .entry)) at (bitsOf 11 695 ⧺ bitsOf 5 5 ⧺ bitsOf 1 flag) (now (out .exit)) r ⌝ }
 {
     let kind = put(out, at, 11, 695);
     let present = put(out, kind, 5, 5);
@@ -77,7 +80,7 @@ fn put_sbr(out: &mut [u8], at: usize, flag: u32) -> usize
 }
 
 fn put_tail(out: &mut [u8], at: usize, form: Form) -> usize
-    requires { ⌜ at ≤ 800000 ⌝ }
+    requires { ⌜ at + 57 ≤ 1000000 ⌝ }
     ensures { λ r. ⌜ (r ≤ at + 57) × Put (now (out .entry)) at (tailBits form) (now (out .exit)) r ⌝ }
 {
     match form {
@@ -99,7 +102,7 @@ fn put_tail(out: &mut [u8], at: usize, form: Form) -> usize
 }
 
 pub fn put_asc(out: &mut [u8], at: usize, c: Config) -> usize
-    requires { ⌜ at ≤ 700000 ⌝ }
+    requires { ⌜ at + 130 ≤ 1000000 ⌝ }
     ensures { λ r. ⌜ (r ≤ at + 130) × Put (now (out .entry)) at (ascBits c) (now (out .exit)) r ⌝ }
 {
     let x = c.freq;
@@ -112,7 +115,8 @@ pub fn put_asc(out: &mut [u8], at: usize, c: Config) -> usize
     put_tail(out, tail, form)
 }
 
-// How many bits a configuration has: where the same function comes to. What does not fit the scratch byte is not stored.
+// How many bits a configuration has: where the same function comes to. What does not fit the scratch byte is not
+// stored.
 pub fn asc_length(c: Config) -> usize
     ensures { λ r. ⌜ (r ≡ length (ascBits c)) × (r ≤ 130) ⌝ }
 {

@@ -1,6 +1,7 @@
-// The writers of StreamMuxConfig, one for each production of config's specs/: each puts its bits and gives the bit after them.
+// The writers of StreamMuxConfig, one for each production of config's specs/: each puts its bits and gives the bit
+// after them.
 mod audio;
-mod values;
+mod present;
 
 ghost use mathlib.Core.Bool.{cond};
 ghost use mathlib.Core.List.{[]};
@@ -11,23 +12,24 @@ ghost use Rattle.kernel.specs.Bits.{bitsOf, _⧺_, Put};
 ghost use Rattle.records.specs.Blank.{noStream};
 ghost use Rattle.records.specs.Same.{sameConfig};
 ghost use Rattle.records.specs.Table.{streamsIn};
-ghost use Rattle.asc.specs.Values.{valueBits, groupBits};
-ghost use Rattle.config.specs.Mux.{configBits, frameLengthBits, layerBits, configAt, layersBits, programsBits, muxHeadBits, muxTailBits, muxBits};
+ghost use Rattle.numbers.specs.Values.{valueBits, groupBits};
+ghost use Rattle.config.specs.Mux.{configBits, frameLengthBits, layerBits, configAt, layersBits, programsBits};
+ghost use Rattle.config.specs.Mux.{muxHeadBits, muxTailBits, muxBits};
 use audio::asc_length;
 use audio::put_asc;
 use kernel::put;
+use numbers::put_groups;
+use numbers::put_value;
+use present::put_if;
+use present::put_value_if;
 use records::Config;
 use records::Record;
 use records::Stream;
 use records::same_config;
-use values::put_groups;
-use values::put_if;
-use values::put_value;
-use values::put_value_if;
 
 // In version 1 behind its length, ascLen, with no fill.
 fn put_config(out: &mut [u8], at: usize, version: u32, c: Config) -> usize
-    requires { ⌜ at ≤ 600000 ⌝ }
+    requires { ⌜ at + 164 ≤ 1000000 ⌝ }
     ensures { λ r. ⌜ (r ≤ at + 164) × Put (now (out .entry)) at (configBits version c) (now (out .exit)) r ⌝ }
 {
     if version == 1 {
@@ -39,17 +41,18 @@ fn put_config(out: &mut [u8], at: usize, version: u32, c: Config) -> usize
 }
 
 fn put_frame_length(out: &mut [u8], at: usize, s: Stream) -> usize
-    requires { ⌜ at ≤ 900000 ⌝ }
+    requires { ⌜ at + 12 ≤ 1000000 ⌝ }
     ensures { λ r. ⌜ (r ≤ at + 12) × Put (now (out .entry)) at (frameLengthBits s) (now (out .exit)) r ⌝ }
 {
     let to = put(out, at, 3, s.kind);
     if s.kind == 0 {
         return put(out, to, 8, s.fullness);
     }
-    put(out, to, 9, s.slot)
+    put(out, to, 9, s.fixed)
 }
 
-// useSameConfig where the stream just before is configured so, or 0 and the configuration; of stream 0 the configuration alone.
+// useSameConfig where the stream just before is configured so, or 0 and the configuration; of stream 0 the
+// configuration alone.
 fn put_sent_or_same(
     out: &mut [u8],
     at: usize,
@@ -57,8 +60,11 @@ fn put_sent_or_same(
     next: usize,
     streams: [Stream; 16],
 ) -> usize
-    requires { ⌜ (at ≤ 500000) × (next < 16) ⌝ }
-    ensures { λ r. ⌜ (r ≤ at + 165) × Put (now (out .entry)) at (cond (eqb next 0) (configBits version (configAt streams next)) (cond (sameConfig (configAt streams (next - 1)) (configAt streams next)) (bitsOf 1 1) (bitsOf 1 0 ⧺ configBits version (configAt streams next)))) (now (out .exit)) r ⌝ }
+    requires { ⌜ (at + 165 ≤ 1000000) × (next < 16) ⌝ }
+    ensures { λ r. ⌜ (r ≤ at + 165)
+        × Put (now (out .entry)) at (cond (eqb next 0) (configBits version (configAt streams next))
+        (cond (sameConfig (configAt streams (next - 1)) (configAt streams next)) (bitsOf 1 1) (bitsOf 1 0
+        ⧺ configBits version (configAt streams next)))) (now (out .exit)) r ⌝ }
 {
     let s = streams[next];
     let c = s.config;
@@ -75,8 +81,10 @@ fn put_sent_or_same(
 }
 
 fn put_layer(out: &mut [u8], at: usize, version: u32, next: usize, streams: [Stream; 16]) -> usize
-    requires { ⌜ (at ≤ 400000) × (next < 16) ⌝ }
-    ensures { λ r. ⌜ (r ≤ at + 177) × Put (now (out .entry)) at (layerBits version next (configAt streams (next - 1)) (getD streams next noStream)) (now (out .exit)) r ⌝ }
+    requires { ⌜ (at + 177 ≤ 1000000) × (next < 16) ⌝ }
+    ensures { λ r. ⌜ (r ≤ at + 177)
+        × Put (now (out .entry)) at (layerBits version next (configAt streams (next - 1))
+        (getD streams next noStream)) (now (out .exit)) r ⌝ }
 {
     let to = put_sent_or_same(out, at, version, next, streams);
     let s = streams[next];
@@ -92,8 +100,9 @@ fn put_layers(
     first: usize,
     streams: [Stream; 16],
 ) -> usize
-    requires { ⌜ (at ≤ 300000) × (first + n ≤ 16) ⌝ }
-    ensures { λ r. ⌜ (r ≤ at + 177 * n) × Put (now (out .entry)) at (layersBits version n first streams) (now (out .exit)) r ⌝ }
+    requires { ⌜ (at + 177 * n ≤ 1000000) × (first + n ≤ 16) ⌝ }
+    ensures { λ r. ⌜ (r ≤ at + 177 * n)
+        × Put (now (out .entry)) at (layersBits version n first streams) (now (out .exit)) r ⌝ }
 {
     let mut to = at;
     let mut next = first;
@@ -115,8 +124,9 @@ fn put_programs(
     layers: [u32; 16],
     streams: [Stream; 16],
 ) -> usize
-    requires { ⌜ (at ≤ 200000) × (n ≤ 15) × (streamsIn layers n 16 ≤ 16) ⌝ }
-    ensures { λ r. ⌜ (r ≤ at + 2880) × Put (now (out .entry)) at (programsBits version (n + 1) 0 0 layers streams) (now (out .exit)) r ⌝ }
+    requires { ⌜ (at + 2880 ≤ 1000000) × (n ≤ 15) × (streamsIn layers n 16 ≤ 16) ⌝ }
+    ensures { λ r. ⌜ (r ≤ at + 2880)
+        × Put (now (out .entry)) at (programsBits version (n + 1) 0 0 layers streams) (now (out .exit)) r ⌝ }
 {
     let mut to = at;
     let mut p: usize = 0;
@@ -135,11 +145,11 @@ fn put_programs(
 
 // Up to numProgram.
 fn put_head(out: &mut [u8], at: usize, r: Record) -> usize
-    requires { ⌜ at ≤ 200000 ⌝ }
+    requires { ⌜ at + 47 ≤ 1000000 ⌝ }
     ensures { λ x. ⌜ (x ≤ at + 47) × Put (now (out .entry)) at (muxHeadBits r) (now (out .exit)) x ⌝ }
 {
     let variant = put(out, at, 1, r.version);
-    let tara = put_if(out, variant, r.version == 1, 1, r.variant);
+    let tara = put_if(out, variant, r.version == 1, 1, r.subversion);
     let framing = put_value_if(out, tara, r.version == 1, r.tara);
     let subframes = put(out, framing, 1, r.framing);
     let programs = put(out, subframes, 6, r.subframes);
@@ -147,8 +157,10 @@ fn put_head(out: &mut [u8], at: usize, r: Record) -> usize
 }
 
 fn put_other_length(out: &mut [u8], at: usize, version: u32, other: u32, bits: u32) -> usize
-    requires { ⌜ at ≤ 300000 ⌝ }
-    ensures { λ r. ⌜ (r ≤ at + 36) × Put (now (out .entry)) at (cond (eqb other 1) (cond (eqb version 1) (valueBits bits) (groupBits bits)) []) (now (out .exit)) r ⌝ }
+    requires { ⌜ at + 36 ≤ 1000000 ⌝ }
+    ensures { λ r. ⌜ (r ≤ at + 36)
+        × Put (now (out .entry)) at (cond (eqb other 1) (cond (eqb version 1) (valueBits bits) (groupBits bits)) [])
+        (now (out .exit)) r ⌝ }
 {
     if other == 1 {
         if version == 1 {
@@ -161,7 +173,7 @@ fn put_other_length(out: &mut [u8], at: usize, version: u32, other: u32, bits: u
 
 // From otherDataPresent on.
 fn put_mux_tail(out: &mut [u8], at: usize, r: Record) -> usize
-    requires { ⌜ at ≤ 200000 ⌝ }
+    requires { ⌜ at + 46 ≤ 1000000 ⌝ }
     ensures { λ x. ⌜ (x ≤ at + 46) × Put (now (out .entry)) at (muxTailBits r) (now (out .exit)) x ⌝ }
 {
     let bits = put(out, at, 1, r.other);
@@ -171,7 +183,7 @@ fn put_mux_tail(out: &mut [u8], at: usize, r: Record) -> usize
 }
 
 pub fn put_mux(out: &mut [u8], at: usize, r: Record) -> usize
-    requires { ⌜ (at ≤ 100000) × (r .programs ≤ 15) × (streamsIn (r .layers) (r .programs) 16 ≤ 16) ⌝ }
+    requires { ⌜ (at + 3000 ≤ 1000000) × (r .programs ≤ 15) × (streamsIn (r .layers) (r .programs) 16 ≤ 16) ⌝ }
     ensures { λ x. ⌜ (x ≤ at + 3000) × Put (now (out .entry)) at (muxBits r) (now (out .exit)) x ⌝ }
 {
     let layers = r.layers;

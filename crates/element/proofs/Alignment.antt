@@ -9,9 +9,10 @@ use Rattle.kernel.specs.Element.{Item, Element, done, follow, accepted, walk, r
 use Rattle.records.specs.declared.Record.{Record}
 use Rattle.config.specs.Mux.{streamMuxConfig}
 use Rattle.element.specs.declared.Held.{Held}
-use Rattle.element.specs.Mux.{kindU, kindC, Applied, subframes, otherData, byteAlignment, streamsOf, body, applied, usable, useSameStreamMux, afterFlag, audioMuxElement, rest}
+use Rattle.element.specs.Mux.{kindU, kindC, Applied, subframes, otherData, byteAlignment, streamsOf, slotsOf}
+use Rattle.element.specs.Mux.{body, applied, usable, useSameStreamMux, afterFlag, audioMuxElement, rest}
 use Rattle.element.specs.Claims.{EndsShort}
-use Rattle.element.proofs.Came.{Came, gave-any, came-any, came-so, came-over, came-part, came-follow, came-read}
+use Rattle.kernel.proofs.Came.{Came, gave-any, came-any, came-so, came-over, came-part, came-follow, came-read}
 
 -- whatever stands before
 ends-behind : (its js : List Item) → EndsShort js → EndsShort (its ++ js)
@@ -43,7 +44,7 @@ module _ (s : List ℕ) where
   unfolding applied rest walk Came
   applied-ends a at n =
       came-follow s (λ _ its. EndsShort its) (λ _ its. EndsShort its) (body (a .config)) (λ _. done a) at n
-      (follow-ends (subframes (a .config .subframes + 1) (streamsOf (a .config))) _
+      (follow-ends (subframes (a .config .subframes + 1) (slotsOf (streamsOf (a .config)))) _
       (λ _. follow-ends (otherData (eqb (a .config .other) 1) (a .config .bits)) _ (λ _. alignment-ends)) at n)
       (λ _ its at′ n′ p. rw (append-nil its) p)
 
@@ -51,13 +52,16 @@ module _ (s : List ℕ) where
   unfolding afterFlag
   after-ends true held at n = applied-ends _ at n
   after-ends false held at n =
-      came-part s _ (λ _. Unit {0}) kindC streamMuxConfig (λ r. applied (record { sent = true; config = r })) at n (gave-any _)
+      came-part s _ (λ _. Unit {0}) kindC streamMuxConfig (λ r. applied (record { sent = true; config = r })) at n
+      (gave-any _)
       (λ r at′ n′ _. came-so _ (λ b js q. ends-behind (_ ∷ []) js q) (applied-ends _ at′ n′))
 
-  pub element-ends-short : (held : Held) (a : Applied) (its : List Item) (n : ℕ) → read s (audioMuxElement held) ≡ accepted a its n → EndsShort its
+  pub element-ends-short : (held : Held) (a : Applied) (its : List Item) (n : ℕ)
+      → read s (audioMuxElement held) ≡ accepted a its n → EndsShort its
   unfolding audioMuxElement
   element-ends-short held a its n =
       came-read s (λ _ js. EndsShort js) (audioMuxElement held) a its n
-      (came-part s _ (λ _. Unit {0}) kindU (useSameStreamMux (usable held)) (λ u. afterFlag (eqb u 1) (held .config)) 0 0 (gave-any _)
+      (came-part s _ (λ _. Unit {0}) kindU (useSameStreamMux (usable held))
+      (λ u. afterFlag (eqb u 1) (held .config)) 0 0 (gave-any _)
       (λ u at′ n′ _. came-so _ (λ b js q. ends-behind (_ ∷ []) js q)
       (after-ends (eqb u 1) (held .config) at′ n′)))

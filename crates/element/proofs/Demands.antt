@@ -1,14 +1,14 @@
 -- The theorem of each claim of specs/Demands.antt: the items of the answer are those that the map shows.
 use mathlib.Core.Path.{_≡_, refl, ap, sym, _∙_}
 use mathlib.Core.Bool.{Bool, true, false, cond}
-use mathlib.Core.List.{List, [], _∷_, _++_}
+use mathlib.Core.List.{List, _++_}
 use Prim.Native.Nat.{ℕ, _+_, _*_, _≤_, _<_}
 use native.Mathlib.Omega.{arith}
 use lib.ListN.{length, drop}
 use Rattle.kernel.specs.declared.Refusal.{Refusal}
 use Rattle.kernel.specs.Bits.{bitAt}
 use Rattle.kernel.specs.Reading.{Stop}
-use Rattle.kernel.specs.Element.{Item, item, Answer, accepted, rejected, itemsOf, InClosed, sumPassed}
+use Rattle.kernel.specs.Element.{Item, Answer, accepted, rejected, itemsOf, InClosed, sumPassed}
 use Rattle.records.specs.Table.{tableOf}
 use Rattle.element.specs.declared.Held.{Held}
 use Rattle.element.specs.declared.Verdict.the-variants.{Accepted, Refused}
@@ -16,16 +16,14 @@ use Rattle.element.specs.Mux.{Applied}
 use Rattle.element.specs.Reply.{answer, numbers, verdictOf, heldAfter, mapAfter, tableAfter}
 use Rattle.element.specs.Left.{shown, Left, leftBy}
 use Rattle.element.specs.Claims.{EachByKind}
-use Rattle.element.specs.Demands.{PromisedIsLeft, ReadIsLeft, AcceptedFits, ShownTile, ShownOnce, ShownCount, SentIsHeld, HeldStays, UsableStays, NextIsNot4, RefusedCount, SameLeft, SameLeftRefused, RefusedLeft}
-use Rattle.element.proofs.Theorems.{accepted-fits, items-tile, each-bit-in-one-item, content-by-kind, count-is-bounded, place-is-inside, same-when-accepted, same-when-refused, refusal-is-numbered, sent-is-valid, held-applies, usable-stays, next-is-not-4}
-
-pub shown-numbers : (its : List Item) (more : List ℕ) → EachByKind its → shown (length its) (numbers its ++ more) ≡ its
-unfolding shown numbers EachByKind
-shown-numbers [] more h = refl
-shown-numbers (it ∷ its) more h =
-    let c = sym (h .0) in
-    let e = shown-numbers its more (h .1) in
-    λ i. item (c i) (it .kind) (it .stream) (it .first) (it .width) ∷ e i
+use Rattle.element.specs.Demands.{PromisedIsLeft, ReadIsLeft, AcceptedFits, ShownTile, ShownOnce, ShownCount}
+use Rattle.element.specs.Demands.{SentIsHeld, HeldStays, UsableStays, NextIsNot4, RefusedCount, SameLeft}
+use Rattle.element.specs.Demands.{SameLeftRefused, RefusedLeft}
+use Rattle.element.proofs.Numbers.{shown-numbers}
+use Rattle.element.proofs.Theorems.{accepted-fits, items-tile, each-bit-in-one-item, content-by-kind}
+use Rattle.element.proofs.Theorems.{count-is-bounded, place-is-inside, same-when-accepted, same-when-refused}
+use Rattle.element.proofs.Theorems.{refusal-is-numbered, sent-is-valid, held-applies, usable-stays}
+use Rattle.element.proofs.Theorems.{next-is-not-4}
 
 -- an accepted answer, whose items the map then shows
 record Shows (x : Answer Applied) (map : List ℕ) (k n : ℕ) (sent : Bool) : Type 0 where
@@ -35,11 +33,20 @@ record Shows (x : Answer Applied) (map : List ℕ) (k n : ℕ) (sent : Bool) : T
   sends : applies .sent ≡ sent
   shows : shown k (mapAfter map x) ≡ items
 
-shows : (x : Answer Applied) (map : List ℕ) (k n : ℕ) (sent : Bool) → EachByKind (itemsOf x) → verdictOf x ≡ Accepted k n sent → Shows x map k n sent
+shows : (x : Answer Applied) (map : List ℕ) (k n : ℕ) (sent : Bool) → EachByKind (itemsOf x)
+    → verdictOf x ≡ Accepted k n sent → Shows x map k n sent
 shows (accepted a its m) map k n sent h e =
     let p : length its ≡ k = cc in
     let q : m ≡ n = cc in
-    record { applies = a; items = its; is = ap (accepted a its) q; sends = cc; shows = ap (λ (j : ℕ). shown j (numbers its ++ drop (4 * length its) map)) (sym p) ∙ shown-numbers its (drop (4 * length its) map) h }
+    record {
+      applies = a;
+      items = its;
+      is = ap (accepted a its) q;
+      sends = cc;
+      shows = ap
+          (λ (j : ℕ). shown j (numbers its ++ drop (4 * length its) map)) (sym p)
+          ∙ shown-numbers its (drop (4 * length its) map) h;
+    }
 shows (rejected r its) map k n sent h e = absurd (let z : _≡_ {A = ℕ} 0 1 = cc in omega arith)
 
 -- a refused answer
@@ -64,7 +71,8 @@ module _ (s : List ℕ) (held : Held) (map : List ℕ) (table : List (List ℕ))
   abbrev stood : Refusal → Left
   stood x = record { reply = record { verdict = Refused x; held = held }; map = map; table = table }
 
-  at-hand : (k n : ℕ) (sent : Bool) → verdictOf (answer s held (length map)) ≡ Accepted k n sent → Shows (answer s held (length map)) map k n sent
+  at-hand : (k n : ℕ) (sent : Bool) → verdictOf (answer s held (length map)) ≡ Accepted k n sent
+      → Shows (answer s held (length map)) map k n sent
   at-hand k n sent e = shows (answer s held (length map)) map k n sent (content-by-kind s held (length map)) e
 
   pub left-fits : AcceptedFits s held map table
@@ -74,32 +82,44 @@ module _ (s : List ℕ) (held : Held) (map : List ℕ) (table : List (List ℕ))
   shown-tile k n sent e = let h = at-hand k n sent e in rw (h .shows) (items-tile s held (length map) _ _ _ (h .is))
 
   pub shown-once : ShownOnce s held map table
-  shown-once k n sent e = let h = at-hand k n sent e in rw (h .shows) (each-bit-in-one-item s held (length map) _ _ _ (h .is))
+  shown-once k n sent e =
+      let h = at-hand k n sent e in rw (h .shows) (each-bit-in-one-item s held (length map) _ _ _ (h .is))
 
   pub shown-count : ShownCount s held map table
-  shown-count k n sent e = let h = at-hand k n sent e in rw (h .shows) (rw (h .is) at (count-is-bounded s held (length map)))
+  shown-count k n sent e =
+      let h = at-hand k n sent e in rw (h .shows) (rw (h .is) at (count-is-bounded s held (length map)))
 
   -- the answer itself is the same
   pub same-answer : (k n : ℕ) (sent : Bool) → verdictOf (answer s held (length map)) ≡ Accepted k n sent
       → (t : List ℕ) → length t ≡ length s
-      → ((i : ℕ) → i < 8 * length s → ¬ InClosed (shown k (mapAfter map (answer s held (length map)))) i → bitAt t i ≡ bitAt s i)
+      → ((i : ℕ) → i < 8 * length s → ¬ InClosed (shown k (mapAfter map (answer s held (length map)))) i
+      → bitAt t i ≡ bitAt s i)
       → answer t held (length map) ≡ answer s held (length map)
   same-answer k n sent e t long same =
-      let h = at-hand k n sent e in same-when-accepted s held (length map) _ _ _ (h .is) t long (rw (h .shows) at same) ∙ sym (h .is)
+      let h = at-hand k n sent e in
+      same-when-accepted s held (length map) _ _ _ (h .is) t long (rw (h .shows) at same) ∙ sym (h .is)
 
   pub same-left : SameLeft s held map table
   same-left k n sent e t long same = ap (leftBy held map table) (same-answer k n sent e t long same)
 
   pub same-left-refused : SameLeftRefused s held map table
-  same-left-refused r its e t long same = ap (leftBy held map table) (same-when-refused s held (length map) r its e t long same ∙ sym e)
+  same-left-refused r its e t long same =
+      ap (leftBy held map table) (same-when-refused s held (length map) r its e t long same ∙ sym e)
 
-  now-held : (k n : ℕ) → verdictOf (answer s held (length map)) ≡ Accepted k n true → (h : Shows (answer s held (length map)) map k n true)
+  now-held : (k n : ℕ) → verdictOf (answer s held (length map)) ≡ Accepted k n true
+      → (h : Shows (answer s held (length map)) map k n true)
       → heldAfter held (answer s held (length map)) ≡ record { present = true; config = h .applies .config }
-  now-held k n e h = ap (heldAfter held) (h .is) ∙ ap (λ (t : Bool). cond t (record { present = true; config = h .applies .config }) held) (h .sends)
+  now-held k n e h =
+      ap (heldAfter held) (h .is) ∙ ap
+      (λ (t : Bool). cond t (record { present = true; config = h .applies .config }) held) (h .sends)
 
   now-table : (k n : ℕ) (h : Shows (answer s held (length map)) map k n true)
-      → tableAfter table (answer s held (length map)) ≡ tableOf (h .applies .config .layers) (h .applies .config .programs)
-  now-table k n h = ap (tableAfter table) (h .is) ∙ ap (λ (t : Bool). cond t (tableOf (h .applies .config .layers) (h .applies .config .programs)) table) (h .sends)
+      → tableAfter table (answer s held (length map))
+      ≡ tableOf (h .applies .config .layers) (h .applies .config .programs)
+  now-table k n h =
+      ap (tableAfter table) (h .is)
+      ∙ ap (λ (t : Bool). cond t (tableOf (h .applies .config .layers) (h .applies .config .programs)) table)
+      (h .sends)
 
   pub sent-is-held : SentIsHeld s held map table
   sent-is-held k n e =
@@ -110,8 +130,11 @@ module _ (s : List ℕ) (held : Held) (map : List ℕ) (table : List (List ℕ))
   held-stays k n e =
       let h = at-hand k n false e in (
         held-applies s held (length map) _ _ _ (h .is) (h .sends) .1,
-        ap (heldAfter held) (h .is) ∙ ap (λ (t : Bool). cond t (record { present = true; config = h .applies .config }) held) (h .sends),
-        ap (tableAfter table) (h .is) ∙ ap (λ (t : Bool). cond t (tableOf (h .applies .config .layers) (h .applies .config .programs)) table) (h .sends),
+        ap (heldAfter held) (h .is) ∙ ap
+            (λ (t : Bool). cond t (record { present = true; config = h .applies .config }) held) (h .sends),
+        ap (tableAfter table) (h .is)
+            ∙ ap (λ (t : Bool). cond t (tableOf (h .applies .config .layers) (h .applies .config .programs)) table)
+            (h .sends),
       )
 
   pub usable-left : UsableStays s held map table
@@ -121,7 +144,8 @@ module _ (s : List ℕ) (held : Held) (map : List ℕ) (table : List (List ℕ))
   next-left-is-not-4 k n e t more rows x f =
       let h = at-hand k n true e in
       let z = stops (answer t (heldAfter held (answer s held (length map))) (length more)) x f in
-      λ g. next-is-not-4 s held (length map) _ _ _ (h .is) (h .sends) t (length more) _ _ (z .is) (ap (λ (y : Refusal). y .number) (z .tells) ∙ g)
+      λ g. next-is-not-4 s held (length map) _ _ _ (h .is) (h .sends) t (length more) _ _ (z .is)
+      (ap (λ (y : Refusal). y .number) (z .tells) ∙ g)
 
   pub refused-count : RefusedCount s held map table
   refused-count r its e = rw e at (count-is-bounded s held (length map))
@@ -129,7 +153,16 @@ module _ (s : List ℕ) (held : Held) (map : List ℕ) (table : List (List ℕ))
   pub refused-left : RefusedLeft s held map table
   refused-left x e =
       let h = stops (answer s held (length map)) x e in
-      let n : (1 ≤ x .number) × (x .number ≤ 15) = rw (h .tells) at (refusal-is-numbered s held (length map) _ _ (h .is)) in
-      let c : h .stop .refusal .read + sumPassed (h .passed) ≤ 8 * length s = rw (h .is) at (count-is-bounded s held (length map)) in
-      let p : h .stop .refusal .place ≤ 8 * length s = rw (h .is) at (place-is-inside s held (length map)) in
-      (n .0, n .1, rw (h .tells) at p, let r : h .stop .refusal .read ≤ 8 * length s = omega (arith, c) in rw (h .tells) at r, ap (leftBy held map table) (h .is) ∙ ap (λ (z : Refusal). stood z) (h .tells))
+      let n : (1 ≤ x .number) × (x .number ≤ 15) =
+      rw (h .tells) at (refusal-is-numbered s held (length map) _ _ (h .is)) in
+      let c : h .stop .refusal .fields + sumPassed (h .passed) ≤ 8 * length s =
+      rw (h .is) at (count-is-bounded s held (length map)) in
+      let p : h .stop .refusal .place ≤ 8 * length s = rw (h .is) at (place-is-inside s held (length map)) in (
+        n .0,
+        n .1,
+        rw (h .tells) at p,
+        let r : h .stop .refusal .fields
+            ≤ 8 * length s = omega (arith, c) in rw (h .tells) at r,
+        ap (leftBy held map table) (h .is)
+            ∙ ap (λ (z : Refusal). stood z) (h .tells),
+      )

@@ -1,4 +1,5 @@
--- How many items the order of a map has, where 16 does not refuse the record: 64 subframes of 1 + 16 items at most, and four more.
+-- How many items the order of a map has, where 16 does not refuse the record: 64 subframes of 1 + 16 items at most, and
+-- four more.
 use mathlib.Core.Path.{_≡_, refl, ap, sym, _∙_}
 use mathlib.Core.Bool.{Bool, true, false, cond}
 use mathlib.Core.List.{List, [], _∷_}
@@ -41,7 +42,13 @@ few-other-marks false = omega arith
 few-body-marks : (r : Record) → validOf r ≡ true → length (bodyMarks r) ≤ 2180
 few-body-marks r v =
     rw (length-append, length-append)
-    (omega (arith, record-ok r v .subframes, few-subframe-marks (r .subframes + 1) (length (streamsOf r)) (few-streams r v), few-other-marks (eqb (r .other) 1)))
+    (omega (
+      arith,
+      record-ok r v .subframes,
+      few-subframe-marks (r .subframes + 1) (length (streamsOf r))
+          (few-streams r v),
+      few-other-marks (eqb (r .other) 1),
+    ))
 
 few-config-marks : (t : Bool) (b : List ℕ) → length b ≤ 2180 → length (cond t (2 ∷ 0 ∷ b) b) ≤ 2182
 few-config-marks true b h = omega arith

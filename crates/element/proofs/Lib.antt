@@ -1,9 +1,5 @@
 -- The laws that the proofs of this crate cite, and the theorems.
-pub mod Turns
-pub mod Goes
-pub mod Ending
-pub mod Whole
-pub mod Came
+pub mod Numbers
 pub mod Order
 pub mod Contents
 pub mod Alignment
@@ -11,9 +7,6 @@ pub mod Unbounded
 pub mod Few
 pub mod Streams
 pub mod Productions
-pub mod Worked
-pub mod Edges
-pub mod Widths
 pub mod Theorems
 pub mod Demands
 pub mod Contracts

@@ -5,34 +5,36 @@ use mathlib.Core.List.{List, [], _∷_, _++_, append-nil}
 use Prim.Native.Nat.{ℕ, zero, suc, _+_}
 use native.Mathlib.Omega.{arith}
 use lib.Dec.{eqb}
-use lib.ListN.{length, length-append}
-use Rattle.kernel.specs.Reading.{Outcome, gave, refused, run, after}
+use lib.ListN.{length, length-append, length-map}
+use Rattle.kernel.specs.Reading.{Reading, Outcome, gave, refused, run, after}
 use Rattle.kernel.specs.Element.{Passing, Item, Element, done, over, follow, accepted, walk, read}
 use Rattle.kernel.proofs.Theorems.{bind-runs-as-parts}
-use Rattle.records.specs.declared.Stream.{Stream}
 use Rattle.records.specs.declared.Record.{Record}
 use Rattle.config.specs.Mux.{streamMuxConfig}
 use Rattle.element.specs.declared.Held.{Held}
-use Rattle.element.specs.Mux.{kindU, kindC, kindL, kindP, kindO, kindA, Applied, slotOf, payloadLengthInfo, payloadMux, subframe, subframes, otherData, byteAlignment, streamsOf, body, applied, usable, useSameStreamMux, afterFlag, audioMuxElement, rest}
+use Rattle.element.specs.Mux.{kindU, kindC, kindL, kindP, kindO, kindA, Applied, payloadLengthInfo, payloadMux}
+use Rattle.element.specs.Mux.{subframe, subframes, otherData, byteAlignment, streamsOf, slotsOf, body, applied}
+use Rattle.element.specs.Mux.{usable, useSameStreamMux, afterFlag, audioMuxElement, rest}
 use Rattle.element.specs.Claims.{marks, payloadMarks, subframeMarks, bodyMarks, configMarks, orderOf}
-use Rattle.element.proofs.Came.{Gave, Came, gave-any, came-so, came-over, came-part, came-follow, came-read}
+use Rattle.kernel.proofs.Came.{Gave, Came, gave-any, came-so, came-over, came-part, came-follow, came-read}
 
 -- ---- as many lengths as streams
 
-many-after : {B : Type 0} (k : ℕ) (o : Outcome B) (f : B → ℕ → ℕ → Outcome (List ℕ)) → ((b : B) (at n : ℕ) → Gave (λ ws. length ws ≡ k) (f b at n))
+many-after : {B : Type 0} (k : ℕ) (o : Outcome B) (f : B → ℕ → ℕ → Outcome (List ℕ))
+    → ((b : B) (at n : ℕ) → Gave (λ ws. length ws ≡ k) (f b at n))
     → Gave (λ ws. length ws ≡ k) (after o f)
 unfolding after Gave
 many-after k (gave b at n) f h = h b at n
 many-after k (refused r) f h = tt
 
-many-lengths : (s : List ℕ) (k : ℕ) (ws : List ℕ) (ss : List Stream) (at n : ℕ) → length ws + length ss ≡ k
-    → Gave (λ vs. length vs ≡ k) (run s (payloadLengthInfo ws ss) at n)
+many-lengths : (s : List ℕ) (k : ℕ) (ws : List ℕ) (slots : List (Reading ℕ)) (at n : ℕ) → length ws + length slots ≡ k
+    → Gave (λ vs. length vs ≡ k) (run s (payloadLengthInfo ws slots) at n)
 unfolding payloadLengthInfo run Gave
 many-lengths s k ws [] at n h = omega arith
-many-lengths s k ws (x ∷ ss) at n h =
-    rw (bind-runs-as-parts (slotOf (x .kind) (x .slot)) (λ w. payloadLengthInfo (ws ++ (w ∷ [])) ss) s at n)
-    (many-after k (run s (slotOf (x .kind) (x .slot)) at n) _
-    (λ w p m. many-lengths s k (ws ++ (w ∷ [])) ss p m (omega (arith, length-append ws (w ∷ [])))))
+many-lengths s k ws (slot ∷ slots) at n h =
+    rw (bind-runs-as-parts slot (λ w. payloadLengthInfo (ws ++ (w ∷ [])) slots) s at n)
+    (many-after k (run s slot at n) _
+    (λ w p m. many-lengths s k (ws ++ (w ∷ [])) slots p m (omega (arith, length-append ws (w ∷ [])))))
 
 -- ---- behind the configuration
 
@@ -50,12 +52,15 @@ module _ (s : List ℕ) where
   unfolding walk Came marks
   done-marks at n = refl
 
-  over-marks : (c : Passing) (kind stream w : ℕ) (e : Element Unit) (ms : List ℕ) → Marks e ms → Marks (over c kind stream w e) (kind ∷ stream ∷ ms)
+  over-marks : (c : Passing) (kind stream w : ℕ) (e : Element Unit) (ms : List ℕ) → Marks e ms
+      → Marks (over c kind stream w e) (kind ∷ stream ∷ ms)
   unfolding marks
   over-marks c kind stream w e ms h at n =
-      came-over s _ c kind stream w e at n (came-so _ (λ a its q. ap (λ (y : List ℕ). kind ∷ stream ∷ y) q) (h (at + w) n))
+      came-over s _ c kind stream w e at n
+      (came-so _ (λ a its q. ap (λ (y : List ℕ). kind ∷ stream ∷ y) q) (h (at + w) n))
 
-  follow-marks : (e : Element Unit) (g : Unit → Element Unit) (ms ns : List ℕ) → Marks e ms → ((a : Unit) → Marks (g a) ns) → Marks (follow e g) (ms ++ ns)
+  follow-marks : (e : Element Unit) (g : Unit → Element Unit) (ms ns : List ℕ) → Marks e ms
+      → ((a : Unit) → Marks (g a) ns) → Marks (follow e g) (ms ++ ns)
   follow-marks e g ms ns h k at n =
       came-follow s (λ _ its. marks its ≡ ms) (λ _ its. marks its ≡ ms ++ ns) e g at n (h at n)
       (λ a its at′ n′ p. came-so {P = λ _ js. marks js ≡ ns} _ (λ b js q. rw (marks-append its js, p, q)) (k a at′ n′))
@@ -65,17 +70,22 @@ module _ (s : List ℕ) where
   payloads-mark i [] = done-marks
   payloads-mark i (w ∷ ws) = over-marks _ kindP i w (payloadMux (i + 1) ws) _ (payloads-mark (i + 1) ws)
 
-  subframe-marks : (ss : List Stream) → Marks (subframe ss) (kindL ∷ 0 ∷ payloadMarks 0 (length ss))
+  subframe-marks : (k : ℕ) (slots : List (Reading ℕ)) → length slots ≡ k
+      → Marks (subframe slots) (kindL ∷ 0 ∷ payloadMarks 0 k)
   unfolding subframe marks
-  subframe-marks ss at n =
-      came-part s _ (λ ws. length ws ≡ length ss) kindL (payloadLengthInfo [] ss) (λ ws. payloadMux 0 ws) at n
-      (many-lengths s (length ss) [] ss at n (omega arith))
-      (λ ws at′ n′ l. came-so _ (λ a its q. ap (λ (y : List ℕ). kindL ∷ 0 ∷ y) (q ∙ ap (payloadMarks 0) l)) (payloads-mark 0 ws at′ n′))
+  subframe-marks k slots e at n =
+      came-part s _ (λ ws. length ws ≡ k) kindL (payloadLengthInfo [] slots) (λ ws. payloadMux 0 ws) at n
+      (many-lengths s k [] slots at n (omega arith))
+      (λ ws at′ n′ l. came-so _ (λ a its q. ap (λ (y : List ℕ). kindL ∷ 0 ∷ y) (q ∙ ap (payloadMarks 0) l))
+      (payloads-mark 0 ws at′ n′))
 
-  subframes-mark : (m : ℕ) (ss : List Stream) → Marks (subframes m ss) (subframeMarks m (length ss))
+  subframes-mark : (m k : ℕ) (slots : List (Reading ℕ)) → length slots ≡ k
+      → Marks (subframes m slots) (subframeMarks m k)
   unfolding subframes subframeMarks
-  subframes-mark zero ss = done-marks
-  subframes-mark (suc m) ss = follow-marks (subframe ss) (λ _. subframes m ss) _ _ (subframe-marks ss) (λ _. subframes-mark m ss)
+  subframes-mark zero k slots e = done-marks
+  subframes-mark (suc m) k slots e =
+      follow-marks (subframe slots) (λ _. subframes m slots) _ _ (subframe-marks k slots e)
+      (λ _. subframes-mark m k slots e)
 
   other-marks : (present : Bool) (w : ℕ) → Marks (otherData present w) (cond present (kindO ∷ 0 ∷ []) [])
   unfolding otherData
@@ -89,31 +99,40 @@ module _ (s : List ℕ) where
   body-marks : (r : Record) → Marks (body r) (bodyMarks r)
   unfolding rest
   body-marks r =
-      follow-marks (subframes (r .subframes + 1) (streamsOf r)) _ _ _ (subframes-mark (r .subframes + 1) (streamsOf r))
-      (λ _. follow-marks (otherData (eqb (r .other) 1) (r .bits)) _ _ _ (other-marks (eqb (r .other) 1) (r .bits)) (λ _. alignment-marks))
+      let ss = streamsOf r in
+      follow-marks (subframes (r .subframes + 1) (slotsOf ss)) _ _ _
+      (subframes-mark (r .subframes + 1) (length ss) (slotsOf ss) (length-map ss _))
+      (λ _. follow-marks (otherData (eqb (r .other) 1) (r .bits)) _ _ _ (other-marks (eqb (r .other) 1) (r .bits))
+      (λ _. alignment-marks))
 
   -- ---- from the flag on
 
-  applied-marks : (a : Applied) (at n : ℕ) → Came (λ b its. (b ≡ a) × (marks its ≡ bodyMarks (a .config))) (walk s (applied a) at n)
+  applied-marks : (a : Applied) (at n : ℕ)
+      → Came (λ b its. (b ≡ a) × (marks its ≡ bodyMarks (a .config))) (walk s (applied a) at n)
   unfolding applied walk Came
   applied-marks a at n =
-      came-follow s (λ _ its. marks its ≡ bodyMarks (a .config)) (λ b its. (b ≡ a) × (marks its ≡ bodyMarks (a .config))) (body (a .config)) (λ _. done a) at n
+      came-follow s (λ _ its. marks its ≡ bodyMarks (a .config)) (λ b its. (b ≡ a)
+      × (marks its ≡ bodyMarks (a .config))) (body (a .config)) (λ _. done a) at n
       (body-marks (a .config) at n) (λ _ its at′ n′ p. (refl, ap marks (append-nil its) ∙ p))
 
-  after-marks : (same : Bool) (held : Record) (at n : ℕ) → Came (λ a its. marks its ≡ configMarks a) (walk s (afterFlag same held) at n)
+  after-marks : (same : Bool) (held : Record) (at n : ℕ)
+      → Came (λ a its. marks its ≡ configMarks a) (walk s (afterFlag same held) at n)
   unfolding afterFlag marks
   after-marks true held at n =
       let a : Applied = record { sent = false; config = held } in
       came-so _ (λ b its q. rw (q .0) (q .1)) (applied-marks a at n)
   after-marks false held at n =
-      came-part s _ (λ _. Unit {0}) kindC streamMuxConfig (λ r. applied (record { sent = true; config = r })) at n (gave-any _)
+      came-part s _ (λ _. Unit {0}) kindC streamMuxConfig (λ r. applied (record { sent = true; config = r })) at n
+      (gave-any _)
       (λ r at′ n′ _. let a : Applied = record { sent = true; config = r } in
       came-so _ (λ b its q. rw (q .0) (ap (λ (y : List ℕ). kindC ∷ 0 ∷ y) (q .1))) (applied-marks a at′ n′))
 
-  pub element-in-order : (held : Held) (a : Applied) (its : List Item) (n : ℕ) → read s (audioMuxElement held) ≡ accepted a its n → marks its ≡ orderOf a
+  pub element-in-order : (held : Held) (a : Applied) (its : List Item) (n : ℕ)
+      → read s (audioMuxElement held) ≡ accepted a its n → marks its ≡ orderOf a
   unfolding audioMuxElement marks
   element-in-order held a its n =
       came-read s (λ b js. marks js ≡ orderOf b) (audioMuxElement held) a its n
-      (came-part s _ (λ _. Unit {0}) kindU (useSameStreamMux (usable held)) (λ u. afterFlag (eqb u 1) (held .config)) 0 0 (gave-any _)
+      (came-part s _ (λ _. Unit {0}) kindU (useSameStreamMux (usable held))
+      (λ u. afterFlag (eqb u 1) (held .config)) 0 0 (gave-any _)
       (λ u at′ n′ _. came-so _ (λ b js q. ap (λ (y : List ℕ). kindU ∷ 0 ∷ y) q)
       (after-marks (eqb u 1) (held .config) at′ n′)))

@@ -1,4 +1,5 @@
--- What every production of an element keeps to: it refuses by a number of 01's table, by 4 only where nothing is held, and what applies is valid.
+-- What every production of an element keeps to: it refuses by a number of 01's table, by 4 only where nothing is held,
+-- and what applies is valid.
 use mathlib.Core.Path.{_≡_, refl, sym, _∙_}
 use mathlib.Core.Bool.{Bool, true, false, not, _||_}
 use mathlib.Core.List.{List, [], _∷_, _++_}
@@ -14,13 +15,16 @@ use Rattle.kernel.specs.Element.{walk}
 use Rattle.kernel.proofs.Values.{value-lt, value-one}
 use Rattle.kernel.proofs.Tests as tests
 use Rattle.kernel.proofs.Tests.{three, neither}
-use Rattle.kernel.proofs.Kept.{chosen, Any, keeps-map, Kept, gives, either, a-field, on, fit-kept, Out, out-fit, KeepsAll, keeps-follow, Come, come-next, come-so, walk-keeps, Told, told-end}
+use Rattle.kernel.proofs.Kept.{chosen, Any, keeps-map, Kept, gives, either, a-field, on, fit-kept, Out, out-fit}
+use Rattle.kernel.proofs.Kept.{KeepsAll, keeps-follow, Come, come-next, come-so, walk-keeps, Told, told-end}
 use Rattle.records.specs.declared.Stream.{Stream}
 use Rattle.records.specs.declared.Record.{Record}
-use Rattle.asc.proofs.Given.{Numbered}
+use Rattle.numbers.proofs.Given.{Numbered}
 use Rattle.config.proofs.Given.{ReadOk, mux}
 use Rattle.element.specs.declared.Held.{Held}
-use Rattle.element.specs.Mux.{kindU, Applied, slotFrom, muxSlotLengthBytes, slotOf, payloadLengthInfo, payloadMux, subframe, subframes, otherData, byteAlignment, rest, applied, usable, useSameStreamMux, afterFlag, audioMuxElement}
+use Rattle.element.specs.Mux.{kindU, Applied, slotFrom, muxSlotLengthBytes, slotOf, streamsOf, slotsOf}
+use Rattle.element.specs.Mux.{payloadLengthInfo, payloadMux, subframe, subframes, otherData, byteAlignment, rest}
+use Rattle.element.specs.Mux.{applied, usable, useSameStreamMux, afterFlag, audioMuxElement}
 use Rattle.element.specs.Reply.{answer}
 
 -- ---- what follows the configuration
@@ -34,7 +38,7 @@ slot : (kind size : ℕ) → Kept Numbered Any (slotOf kind size)
 unfolding slotOf muxSlotLengthBytes
 slot kind size = either _ (λ _. on _ (slot-from _ _) λ v _. gives tt) (λ _. gives tt)
 
-lengths : (ws : List ℕ) (ss : List Stream) → Kept Numbered Any (payloadLengthInfo ws ss)
+lengths : (ws : List ℕ) (ss : List Stream) → Kept Numbered Any (payloadLengthInfo ws (slotsOf ss))
 unfolding payloadLengthInfo
 lengths ws [] = gives tt
 lengths ws (s ∷ ss) = on _ (slot _ _) λ w _. lengths (ws ++ (w ∷ [])) ss
@@ -44,11 +48,12 @@ unfolding KeepsAll payloadMux
 payloads i [] = tt
 payloads i (w ∷ ws) = payloads (i + 1) ws
 
-one-subframe : (ss : List Stream) → KeepsAll Numbered Any (subframe ss)
+one-subframe : (ss : List Stream) → KeepsAll Numbered Any (subframe (slotsOf ss))
 unfolding KeepsAll subframe
-one-subframe ss = keeps-map Numbered Any (λ ws. KeepsAll Numbered Any (payloadMux 0 ws)) _ (lengths [] ss .is) (λ ws _. payloads 0 ws)
+one-subframe ss =
+    keeps-map Numbered Any (λ ws. KeepsAll Numbered Any (payloadMux 0 ws)) _ (lengths [] ss .is) (λ ws _. payloads 0 ws)
 
-all-subframes : (n : ℕ) (ss : List Stream) → KeepsAll Numbered Any (subframes n ss)
+all-subframes : (n : ℕ) (ss : List Stream) → KeepsAll Numbered Any (subframes n (slotsOf ss))
 unfolding KeepsAll subframes
 all-subframes zero ss = tt
 all-subframes (suc n) ss = keeps-follow Numbered Any Any _ _ (one-subframe ss) (λ _ _. all-subframes n ss)
@@ -62,9 +67,11 @@ alignment : KeepsAll Numbered Any byteAlignment
 unfolding KeepsAll byteAlignment
 alignment = λ p. tt
 
-the-rest : (n : ℕ) (ss : List Stream) (t : Bool) (w : ℕ) → KeepsAll Numbered Any (rest n ss t w)
+the-rest : (n : ℕ) (ss : List Stream) (t : Bool) (w : ℕ) → KeepsAll Numbered Any (rest n (slotsOf ss) t w)
 unfolding rest
-the-rest n ss t w = keeps-follow Numbered Any Any _ _ (all-subframes n ss) (λ _ _. keeps-follow Numbered Any Any _ _ (other-data t w) (λ _ _. alignment))
+the-rest n ss t w =
+    keeps-follow Numbered Any Any _ _ (all-subframes n ss)
+    (λ _ _. keeps-follow Numbered Any Any _ _ (other-data t w) (λ _ _. alignment))
 
 -- ---- what applies
 
@@ -78,13 +85,15 @@ AppliedOk held a = Applies held (a .sent) (a .config)
 
 is-applied : (held : Held) (a : Applied) → AppliedOk held a → KeepsAll Numbered (AppliedOk held) (applied a)
 unfolding KeepsAll applied
-is-applied held a h = keeps-follow Numbered Any (AppliedOk held) _ _ (the-rest _ _ _ _) (λ _ _. h)
+is-applied held a h = keeps-follow Numbered Any (AppliedOk held) _ _ (the-rest _ (streamsOf (a .config)) _ _) (λ _ _. h)
 
-after-flag : (held : Held) (t : Bool) → (t ≡ true → usable held ≡ true) → KeepsAll Numbered (AppliedOk held) (afterFlag t (held .config))
+after-flag : (held : Held) (t : Bool) → (t ≡ true → usable held ≡ true)
+    → KeepsAll Numbered (AppliedOk held) (afterFlag t (held .config))
 unfolding KeepsAll afterFlag
 after-flag held true h = is-applied held _ (refl, h refl)
 after-flag held false h =
-    keeps-map Numbered ReadOk (λ x. KeepsAll Numbered (AppliedOk held) (applied (record { sent = true; config = x }))) _ (mux .is) (λ x k. is-applied held _ k)
+    keeps-map Numbered ReadOk (λ x. KeepsAll Numbered (AppliedOk held) (applied (record { sent = true; config = x })))
+    _ (mux .is) (λ x k. is-applied held _ k)
 
 -- ---- the flag
 
@@ -101,17 +110,21 @@ behind-flag s held m h =
 abbrev Flagged : Bool → ℕ → Type 0
 Flagged held u = eqb u 1 ≡ true → held ≡ true
 
-flag : (s : List ℕ) (held : Held) → Out (Refuses s held) (Flagged (usable held)) (run s (useSameStreamMux (usable held)) 0 0)
+flag : (s : List ℕ) (held : Held)
+    → Out (Refuses s held) (Flagged (usable held)) (run s (useSameStreamMux (usable held)) 0 0)
 unfolding useSameStreamMux run field need _>>=_ _>>_
 flag s held =
     out-fit (Refuses s held) (Flagged (usable held)) (fit Open (8 * length s) 1) 0 0 _
-    (fit-kept (Refuses s held) (behind-flag s held 3 refl) (behind-flag s held 10 refl) Open (8 * length s) 1) (go (eqb v 0 || usable held) refl)
+    (fit-kept (Refuses s held) (behind-flag s held 3 refl) (behind-flag s held 10 refl) Open (8 * length s) 1)
+    (go (eqb v 0 || usable held) refl)
   where
     v : ℕ
     v = valueAt s 0 1
 
-    go : (b : Bool) → (eqb v 0 || usable held) ≡ b → Out (Refuses s held) (Flagged (usable held)) (run s (need b 4 1 >> give v) 1 1)
-    go true e = λ q. let z : v ≡ 1 = eqb-true v 1 q in tests.either (eqb v 0) (usable held) e (ne-eqb v 0 (λ y. omega arith))
+    go : (b : Bool) → (eqb v 0 || usable held) ≡ b
+        → Out (Refuses s held) (Flagged (usable held)) (run s (need b 4 1 >> give v) 1 1)
+    go true e =
+        λ q. let z : v ≡ 1 = eqb-true v 1 q in tests.either (eqb v 0) (usable held) e (ne-eqb v 0 (λ y. omega arith))
     go false e =
         let q = neither (eqb v 0) (usable held) e in
         let n : v ≡ 0 → ⊥ = eqb-false v 0 (q .0) in
@@ -123,15 +136,21 @@ flag s held =
 walked : (s : List ℕ) (held : Held) → Come (Refuses s held) (AppliedOk held) (walk s (audioMuxElement held) 0 0)
 unfolding walk audioMuxElement
 walked s held =
-    come-next (Refuses s held) (AppliedOk held) (Flagged (usable held)) kindU 0 (run s (useSameStreamMux (usable held)) 0 0)
+    come-next (Refuses s held) (AppliedOk held) (Flagged (usable held)) kindU 0
+    (run s (useSameStreamMux (usable held)) 0 0)
     (λ u at n. walk s (afterFlag (eqb u 1) (held .config)) at n) (flag s held)
     (λ u at n h.
-    come-so Numbered (Refuses s held) (AppliedOk held) (walk s (afterFlag (eqb u 1) (held .config)) at n) (behind-flag s held)
-    (walk-keeps Numbered (AppliedOk held) refl refl s (afterFlag (eqb u 1) (held .config)) at n (after-flag held (eqb u 1) h)))
+    come-so Numbered (Refuses s held) (AppliedOk held) (walk s (afterFlag (eqb u 1) (held .config)) at n)
+    (behind-flag s held)
+    (walk-keeps Numbered (AppliedOk held) refl refl s (afterFlag (eqb u 1) (held .config)) at n
+    (after-flag held (eqb u 1) h)))
 
 pub answered : (s : List ℕ) (held : Held) (room : ℕ) → Told (Refuses s held) (AppliedOk held) (answer s held room)
 unfolding answer
 answered s held room =
-    chosen (Told (Refuses s held) (AppliedOk held)) (ltb room 4368) _ _ (omega arith, omega arith, λ e. absurd (omega arith))
-    (chosen (Told (Refuses s held) (AppliedOk held)) (eqb (length s) 0 || ltb 8191 (length s)) _ _ (omega arith, omega arith, λ e. absurd (omega arith))
-    (told-end (Refuses s held) (AppliedOk held) (behind-flag s held 15 refl) (8 * length s) (walk s (audioMuxElement held) 0 0) (walked s held)))
+    chosen (Told (Refuses s held) (AppliedOk held)) (ltb room 4368) _ _
+    (omega arith, omega arith, λ e. absurd (omega arith))
+    (chosen (Told (Refuses s held) (AppliedOk held)) (eqb (length s) 0
+    || ltb 8191 (length s)) _ _ (omega arith, omega arith, λ e. absurd (omega arith))
+    (told-end (Refuses s held) (AppliedOk held) (behind-flag s held 15 refl) (8 * length s)
+    (walk s (audioMuxElement held) 0 0) (walked s held)))

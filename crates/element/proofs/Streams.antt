@@ -32,24 +32,31 @@ below-subframes : (k n m : ℕ) (more : List ℕ) → 1 ≤ k → m ≤ k → Be
 unfolding Below subframeMarks
 below-subframes k zero m more one l h = h
 below-subframes k (suc n) m more one l h =
-    rw (append-assoc (payloadMarks 0 m) (subframeMarks n m) more) (omega arith, below-payloads k 0 m (subframeMarks n m ++ more) (omega arith) (below-subframes k n m more one l h))
+    rw (append-assoc (payloadMarks 0 m) (subframeMarks n m) more) (
+      omega arith,
+      below-payloads k 0 m (subframeMarks n m
+          ++ more) (omega arith) (below-subframes k n m more one l h),
+    )
 
 below-end : (k : ℕ) (other : Bool) → 1 ≤ k → Below k (cond other (kindO ∷ 0 ∷ []) [] ++ (kindA ∷ 0 ∷ []))
 unfolding Below
 below-end k true one = (omega arith, (omega arith, tt))
 below-end k false one = (omega arith, tt)
 
-below-config : (k : ℕ) (a : Applied) (sent : Bool) → 1 ≤ k → Below k (bodyMarks (a .config)) → Below k (configMarks (record { sent = sent; config = a .config }))
+below-config : (k : ℕ) (a : Applied) (sent : Bool) → 1 ≤ k → Below k (bodyMarks (a .config))
+    → Below k (configMarks (record { sent = sent; config = a .config }))
 unfolding Below
 below-config k a true one h = (omega arith, h)
 below-config k a false one h = h
 
-pub streams-below : (a : Applied) (its : List Item) → validOf (a .config) ≡ true → marks its ≡ orderOf a → EachBelow 16 its
+pub streams-below : (a : Applied) (its : List Item) → validOf (a .config) ≡ true → marks its ≡ orderOf a
+    → EachBelow 16 its
 unfolding Below
 streams-below a its h e =
     let r = a .config in
     below-marks 16 its (rw e (
       omega arith,
       below-config 16 a (a .sent) (omega arith)
-          (below-subframes 16 (r .subframes + 1) (length (streamsOf r)) _ (omega arith) (few-streams r h) (below-end 16 (eqb (r .other) 1) (omega arith))),
+          (below-subframes 16 (r .subframes + 1) (length (streamsOf r)) _ (omega arith) (few-streams r h)
+          (below-end 16 (eqb (r .other) 1) (omega arith))),
     ))

@@ -1,4 +1,5 @@
--- The theorem of each claim of specs/Claims.antt: what the kernel proves of every element, under the two tests that stand before the fields.
+-- The theorem of each claim of specs/Claims.antt: what the kernel proves of every element, under the two tests that
+-- stand before the fields.
 use mathlib.Core.Path.{_≡_, refl, ap, sym, _∙_}
 use mathlib.Core.Bool.{Bool, true, false, cond, _||_}
 use mathlib.Core.List.{List, []}
@@ -9,8 +10,10 @@ use lib.ListN.{length}
 use borrow.Author.Tests.{eqb-false, ltb-false, le-ltb, ne-eqb}
 use Rattle.kernel.specs.Bits.{bitAt, valueAt}
 use Rattle.kernel.specs.declared.Window.the-variants.{Open}
-use Rattle.kernel.specs.Reading.{_>>=_, _>>_, field, need, stop, gave, Fit, fits, short, fit, onFit, run, Stop, give, choose}
-use Rattle.kernel.specs.Element.{fields, Item, item, Passage, withItem, next, walk, Answer, accepted, rejected, itemsOf, countOf, placeOf, sumPassed, fell}
+use Rattle.kernel.specs.Reading.{_>>=_, _>>_, field, need, stop, gave, Fit, fits, short, fit, onFit, run, Stop, give}
+use Rattle.kernel.specs.Reading.{choose}
+use Rattle.kernel.specs.Element.{fields, Item, item, Passage, withItem, next, walk, Answer, accepted, rejected, itemsOf}
+use Rattle.kernel.specs.Element.{countOf, placeOf, sumPassed, fell}
 use Rattle.kernel.proofs.Theorems as kernel
 use Rattle.kernel.proofs.Values.{value-one}
 use Rattle.kernel.proofs.Tests.{both, neither}
@@ -19,19 +22,20 @@ use Rattle.records.specs.declared.Record.{Record}
 use Rattle.records.specs.Valid.{validOf}
 use Rattle.config.proofs.Given.{ReadOk}
 use Rattle.element.specs.declared.Held.{Held}
-use Rattle.element.specs.Mux.{kindU, Applied, useSameStreamMux, afterFlag, audioMuxElement, usable, muxSlotLengthBytes, slotOf}
+use Rattle.element.specs.Mux.{kindU, Applied, useSameStreamMux, afterFlag, audioMuxElement, usable}
+use Rattle.element.specs.Mux.{muxSlotLengthBytes, slotOf}
 use Rattle.element.specs.Reply.{answer, heldAfter, replyOf}
-use Rattle.element.specs.Claims.{AcceptedFits, ItemsTile, EachBitInOneItem, WidthsAddUp, EachByKind, MapInOrder, StreamsAreFew, AlignmentIsShort, ContentByKind, CountIsBounded, PlaceIsInside, FiguresAreSmall, SameAccepted, SameRefused, SentStandsAlone, RefusalIsNumbered, SentHasItsPlaces, ReadOnce, FourIsNothingHeld, NothingHeldIsFour, SentIsValid, HeldApplies, NextIsNot4, UsableStays, SpannedOnce, LengthsOnce, FinishOnce, ReadWithOnce, SlotIsUnbounded, SlotByLengthBytes, StreamsAreAll, ItemsAreFew}
+use Rattle.element.specs.Claims.{AcceptedFits, ItemsTile, EachBitInOneItem, WidthsAddUp, EachByKind, MapInOrder}
+use Rattle.element.specs.Claims.{StreamsAreFew, AlignmentIsShort, ContentByKind, CountIsBounded, PlaceIsInside}
+use Rattle.element.specs.Claims.{FiguresAreSmall, SameAccepted, SameRefused, SentStandsAlone, RefusalIsNumbered}
+use Rattle.element.specs.Claims.{SentHasItsPlaces, ReadOnce, FourIsNothingHeld, NothingHeldIsFour, SentIsValid}
+use Rattle.element.specs.Claims.{HeldApplies, NextIsNot4, UsableStays, ReadWithOnce, SlotIsUnbounded}
+use Rattle.element.specs.Claims.{SlotByLengthBytes, StreamsAreAll, ItemsAreFew}
 use Rattle.element.proofs.Order.{element-in-order}
 use Rattle.element.proofs.Streams.{streams-below}
 use Rattle.element.proofs.Contents.{element-by-kind}
 use Rattle.element.proofs.Alignment.{element-ends-short}
 use Rattle.element.proofs.Productions.{Applies, AppliedOk, Refuses, answered}
-use Rattle.kernel.proofs.Once.{answerOf, once-by}
-use Rattle.element.specs.declared.Spanned.{Spanned}
-use Rattle.element.specs.declared.Spanned.the-variants as spanned
-use Rattle.element.specs.Parts.{toldSpanned}
-use Rattle.element.proofs.Widths.{measured-once}
 use Rattle.element.proofs.Unbounded.{slot-unbounded}
 use Rattle.element.proofs.Few.{few-items, all-streams}
 
@@ -50,19 +54,22 @@ abbrev tested : Bool → Bool → Answer Applied → Answer Applied
 tested small sized x = cond small (rejected (stop 1 0 0 0) []) (cond sized (rejected (stop 2 0 0 0) []) x)
 
 -- what is accepted passed both tests
-by-fields : (p q : Bool) (x : Answer Applied) (a : Applied) (its : List Item) (n : ℕ) → tested p q x ≡ accepted a its n → x ≡ accepted a its n
+by-fields : (p q : Bool) (x : Answer Applied) (a : Applied) (its : List Item) (n : ℕ)
+    → tested p q x ≡ accepted a its n → x ≡ accepted a its n
 by-fields true q x a its n h = absurd (let z : _≡_ {A = ℕ} 0 1 = cc in omega arith)
 by-fields false true x a its n h = absurd (let z : _≡_ {A = ℕ} 0 1 = cc in omega arith)
 by-fields false false x a its n h = h
 
-tests-passed : (p q : Bool) (x : Answer Applied) (a : Applied) (its : List Item) (n : ℕ) → tested p q x ≡ accepted a its n → (p ≡ false) × (q ≡ false)
+tests-passed : (p q : Bool) (x : Answer Applied) (a : Applied) (its : List Item) (n : ℕ)
+    → tested p q x ≡ accepted a its n → (p ≡ false) × (q ≡ false)
 tests-passed true q x a its n h = absurd (let z : _≡_ {A = ℕ} 0 1 = cc in omega arith)
 tests-passed false true x a its n h = absurd (let z : _≡_ {A = ℕ} 0 1 = cc in omega arith)
 tests-passed false false x a its n h = (refl, refl)
 
 -- a length that passed the second test
 sized-not : (n : ℕ) → eqb n 0 || ltb 8191 n ≡ false → (1 ≤ n) × (n ≤ 8191)
-sized-not n h = let q = neither (eqb n 0) (ltb 8191 n) h in let z = eqb-false n 0 (q .0) in (omega arith, ltb-false 8191 n (q .1))
+sized-not n h =
+    let q = neither (eqb n 0) (ltb 8191 n) h in let z = eqb-false n 0 (q .0) in (omega arith, ltb-false 8191 n (q .1))
 
 bounded : (p q : Bool) (x : Answer Applied) (bits : ℕ) → countOf x + sumPassed (itemsOf x) ≤ bits
     → countOf (tested p q x) + sumPassed (itemsOf (tested p q x)) ≤ bits
@@ -106,16 +113,19 @@ unfolding walk audioMuxElement useSameStreamMux run field need _>>=_ _>>_ afterF
 sent s g h e = let v : valueAt s 0 1 ≡ 0 = rw value-one e in rw v (after-flag (fit Open (8 * length s) 1) _ _ refl)
 
 -- a flag of 1 with nothing held
-unheld : (s : List ℕ) (held : Held) → 1 ≤ length s → bitAt s 0 ≡ 1 → usable held ≡ false → walk s (audioMuxElement held) 0 0 ≡ fell (stop 4 0 1 1) []
+unheld : (s : List ℕ) (held : Held) → 1 ≤ length s → bitAt s 0 ≡ 1 → usable held ≡ false
+    → walk s (audioMuxElement held) 0 0 ≡ fell (stop 4 0 1 1) []
 unfolding walk audioMuxElement useSameStreamMux run field need _>>=_ _>>_ onFit fit next
 unheld s held l e u = let v : valueAt s 0 1 ≡ 1 = rw value-one e in rw (v, u, le-ltb (8 * length s) 1 (omega arith))
 
 -- what can be used is held on, or another that was sent
-stays-if : (held : Held) (t : Bool) (r : Record) → usable held ≡ true → Applies held t r → usable (cond t (record { present = true; config = r }) held) ≡ true
+stays-if : (held : Held) (t : Bool) (r : Record) → usable held ≡ true → Applies held t r
+    → usable (cond t (record { present = true; config = r }) held) ≡ true
 stays-if held true r u h = h .valid
 stays-if held false r u h = u
 
-stays : (held : Held) (x : Answer Applied) (R : ℕ → Type 0) → usable held ≡ true → Told R (AppliedOk held) x → usable (heldAfter held x) ≡ true
+stays : (held : Held) (x : Answer Applied) (R : ℕ → Type 0) → usable held ≡ true → Told R (AppliedOk held) x
+    → usable (heldAfter held x) ≡ true
 stays held (accepted a its n) R u h = stays-if held (a .sent) (a .config) u h
 stays held (rejected r its) R u h = u
 
@@ -125,11 +135,13 @@ is-valid held true r h = h .valid
 is-valid held false r h = rw (h .0) (both (held .present) (validOf (held .config)) (h .1) .1)
 
 -- a valid record that was sent can be used
-now-held : (held : Held) (t : Bool) (r : Record) → t ≡ true → validOf r ≡ true → usable (cond t (record { present = true; config = r }) held) ≡ true
+now-held : (held : Held) (t : Bool) (r : Record) → t ≡ true → validOf r ≡ true
+    → usable (cond t (record { present = true; config = r }) held) ≡ true
 now-held held true r e h = h
 now-held held false r e h = let z : false ≡ true = e in cc
 
-not-4 : (s : List ℕ) (held : Held) (room : ℕ) → usable held ≡ true → (r : Stop) (its : List Item) → answer s held room ≡ rejected r its → r .refusal .number ≡ 4 → ⊥
+not-4 : (s : List ℕ) (held : Held) (room : ℕ) → usable held ≡ true → (r : Stop) (its : List Item)
+    → answer s held room ≡ rejected r its → r .refusal .number ≡ 4 → ⊥
 not-4 s held room u r its h e =
     let q : Refuses s held (r .refusal .number) = rw h at (answered s held room) in
     let z : true ≡ false = sym u ∙ q .2 e .1 in
@@ -152,15 +164,18 @@ module _ (s : List ℕ) (held : Held) (room : ℕ) where
 
   pub items-tile : ItemsTile s held room
   unfolding answer
-  items-tile a its n h = kernel.items-tile s (audioMuxElement held) a its n (by-fields small (sized (length s)) _ a its n h)
+  items-tile a its n h =
+      kernel.items-tile s (audioMuxElement held) a its n (by-fields small (sized (length s)) _ a its n h)
 
   pub each-bit-in-one-item : EachBitInOneItem s held room
   unfolding answer
-  each-bit-in-one-item a its n h = kernel.each-bit-in-one-item s (audioMuxElement held) a its n (by-fields small (sized (length s)) _ a its n h)
+  each-bit-in-one-item a its n h =
+      kernel.each-bit-in-one-item s (audioMuxElement held) a its n (by-fields small (sized (length s)) _ a its n h)
 
   pub widths-add-up : WidthsAddUp s held room
   unfolding answer
-  widths-add-up a its n h = kernel.widths-add-up s (audioMuxElement held) a its n (by-fields small (sized (length s)) _ a its n h)
+  widths-add-up a its n h =
+      kernel.widths-add-up s (audioMuxElement held) a its n (by-fields small (sized (length s)) _ a its n h)
 
   pub map-in-order : MapInOrder s held room
   unfolding answer
@@ -176,7 +191,8 @@ module _ (s : List ℕ) (held : Held) (room : ℕ) where
 
   pub count-is-bounded : CountIsBounded s held room
   unfolding answer
-  count-is-bounded = bounded small (sized (length s)) _ (8 * length s) (kernel.count-is-bounded s (audioMuxElement held))
+  count-is-bounded =
+      bounded small (sized (length s)) _ (8 * length s) (kernel.count-is-bounded s (audioMuxElement held))
 
   pub place-is-inside : PlaceIsInside s held room
   unfolding answer
@@ -186,8 +202,11 @@ module _ (s : List ℕ) (held : Held) (room : ℕ) where
   unfolding answer
   figures-are-small =
       small-figures small (sized (length s)) _ λ e.
-      let l = sized-not (length s) e in
-      (omega (arith, l .1, kernel.place-is-inside s (audioMuxElement held)), omega (arith, l .1, kernel.count-is-bounded s (audioMuxElement held)))
+      let l = sized-not (length s) e in (
+        omega (arith, l .1, kernel.place-is-inside s (audioMuxElement held)),
+        omega
+            (arith, l .1, kernel.count-is-bounded s (audioMuxElement held)),
+      )
 
   pub same-when-accepted : SameAccepted s held room
   unfolding answer
@@ -212,7 +231,8 @@ module _ (s : List ℕ) (held : Held) (room : ℕ) where
   applies : (a : Applied) (its : List Item) (n : ℕ) → answer s held room ≡ accepted a its n → AppliedOk held a
   applies a its n h = rw h at (answered s held room)
 
-  sent-ok : (a : Applied) (its : List Item) (n : ℕ) → answer s held room ≡ accepted a its n → a .sent ≡ true → ReadOk (a .config)
+  sent-ok : (a : Applied) (its : List Item) (n : ℕ) → answer s held room ≡ accepted a its n → a .sent ≡ true
+      → ReadOk (a .config)
   sent-ok a its n h t = rw t at (applies a its n h)
 
   pub refusal-is-numbered : RefusalIsNumbered s held room
@@ -235,7 +255,8 @@ module _ (s : List ℕ) (held : Held) (room : ℕ) where
   pub held-applies : HeldApplies s held room
   held-applies a its n h t = rw t at (applies a its n h)
 
-  applied-valid : (a : Applied) (its : List Item) (n : ℕ) → answer s held room ≡ accepted a its n → validOf (a .config) ≡ true
+  applied-valid : (a : Applied) (its : List Item) (n : ℕ) → answer s held room ≡ accepted a its n
+      → validOf (a .config) ≡ true
   applied-valid a its n h = is-valid held (a .sent) (a .config) (applies a its n h)
 
   pub items-are-few : ItemsAreFew s held room
@@ -246,7 +267,8 @@ module _ (s : List ℕ) (held : Held) (room : ℕ) where
 
   pub next-is-not-4 : NextIsNot4 s held room
   next-is-not-4 a its n h t other more r before k e =
-      let u : usable (replyOf s held room .held) ≡ true = ap (λ (z : Answer Applied). usable (heldAfter held z)) h ∙ now-held held (a .sent) (a .config) t (sent-is-valid a its n h t) in
+      let u : usable (replyOf s held room .held) ≡ true = ap (λ (z : Answer Applied). usable (heldAfter held z)) h
+      ∙ now-held held (a .sent) (a .config) t (sent-is-valid a its n h t) in
       not-4 other (replyOf s held room .held) more u r before k e
 
   pub streams-are-few : StreamsAreFew s held room
@@ -257,21 +279,9 @@ module _ (s : List ℕ) (held : Held) (room : ℕ) where
 
 -- ---- one result
 
-spanned-back : (x : Spanned) → answerOf spanned.Value spanned.Refused (toldSpanned x) ≡ x
-spanned-back (spanned.Value w c) = refl
-spanned-back (spanned.Refused x) = refl
-
-pub spanned-once : SpannedOnce
-spanned-once = once-by toldSpanned spanned.Value spanned.Refused spanned-back
-
-pub lengths-once : LengthsOnce
-lengths-once streams k s at n x y p q = let e = measured-once k (x .verdict) (y .verdict) (x .widths) (y .widths) (p .0 ∙ sym (q .0)) (p .1) (q .1) in λ i. record { verdict = e .0 i; widths = e .1 i }
-
-pub finish-once : FinishOnce
-finish-once sent s e at n x y map map₁ map₂ p q = (p .0 ∙ sym (q .0), p .1 ∙ sym (q .1))
-
 pub read-once : ReadOnce
 read-once s held x y map map₁ map₂ p q = (p .0 ∙ sym (q .0), p .1 ∙ sym (q .1))
 
 pub read-with-once : ReadWithOnce
-read-with-once s held x y map map₁ map₂ table table₁ table₂ p q = (p .0 .0 ∙ sym (q .0 .0), p .0 .1 ∙ sym (q .0 .1), p .1 ∙ sym (q .1))
+read-with-once s held x y map map₁ map₂ table table₁ table₂ p q =
+    (p .0 .0 ∙ sym (q .0 .0), p .0 .1 ∙ sym (q .0 .1), p .1 ∙ sym (q .1))

@@ -1,27 +1,25 @@
--- What is claimed of an element, of what its reading answers. proofs/Theorems.antt has the theorem of each; the demands follow in Demands.
+-- What is claimed of an element, of what its reading answers. proofs/Theorems.antt has the theorem of each; the demands
+-- follow in Demands.
 use mathlib.Core.Path.{_≡_}
-use mathlib.Core.Bool.{true, false, cond, Bool}
+use mathlib.Core.Bool.{true, false, cond}
 use mathlib.Core.List.{List, [], _∷_, _++_}
 use Prim.Native.Nat.{ℕ, zero, suc, _+_, _*_, _≤_, _<_}
 use lib.Dec.{eqb}
 use lib.ListN.{length}
 use Rattle.kernel.specs.Bits.{bitAt, valueAt}
 use Rattle.kernel.specs.Reading.{Stop, stop, Outcome, gave, refused, run, after}
-use Rattle.kernel.specs.Element.{Item, accepted, rejected, itemsOf, countOf, placeOf, Tiles, OneItem, InClosed, sumWidths, sumPassed, Element, closed, fields, passed}
-use Rattle.kernel.specs.Promises.{TellsOnce}
-use Rattle.records.specs.declared.Stream.{Stream}
+use Rattle.kernel.specs.Element.{Item, accepted, rejected, itemsOf, countOf, placeOf, Tiles, OneItem, InClosed}
+use Rattle.kernel.specs.Element.{sumWidths, sumPassed}
 use Rattle.records.specs.declared.Record.{Record}
 use Rattle.records.specs.Table.{streamsIn}
 use Rattle.records.specs.Valid.{validOf}
 use Rattle.element.specs.declared.Held.{Held}
-use Rattle.element.specs.Mux.{kindU, kindC, kindL, kindP, kindO, kindA, Applied, streamsOf, usable, muxSlotLengthBytes, slotOf}
-use Rattle.element.specs.declared.Lengths.{Lengths}
-use Rattle.element.specs.declared.Verdict.{Verdict}
+use Rattle.element.specs.Mux.{kindU, kindC, kindL, kindP, kindO, kindA, Applied, streamsOf, usable}
+use Rattle.element.specs.Mux.{muxSlotLengthBytes, slotOf}
 use Rattle.element.specs.declared.Reply.{Reply}
 use Rattle.element.specs.Reply.{answer, replyOf}
 use Rattle.element.specs.Left.{contentOf}
-use Rattle.element.specs.Parts.{toldSpanned}
-use Rattle.element.specs.Promises.{LengthsPromise, FinishPromise, ReadPromise, ReadWithPromise}
+use Rattle.element.specs.Promises.{ReadPromise, ReadWithPromise}
 
 -- the content of each item is its kind's
 unfoldable pub EachByKind : List Item → Type 0
@@ -50,7 +48,9 @@ subframeMarks (suc n) k = (kindL ∷ 0 ∷ payloadMarks 0 k) ++ subframeMarks n 
 
 -- the subframes, other data if otherDataPresent is 1, alignment
 abbrev pub bodyMarks : Record → List ℕ
-bodyMarks r = subframeMarks (r .subframes + 1) (length (streamsOf r)) ++ (cond (eqb (r .other) 1) (kindO ∷ 0 ∷ []) [] ++ (kindA ∷ 0 ∷ []))
+bodyMarks r =
+    subframeMarks (r .subframes + 1) (length (streamsOf r))
+    ++ (cond (eqb (r .other) 1) (kindO ∷ 0 ∷ []) [] ++ (kindA ∷ 0 ∷ []))
 
 -- the configuration if sent, and those
 abbrev pub configMarks : Applied → List ℕ
@@ -74,39 +74,53 @@ pub record Full (s : List ℕ) (at k : ℕ) : Type 0 where
   pub ones : (j : ℕ) → j < k → valueAt s (at + 8 * j) 8 ≡ 255
 
 -- what bytes from bit `at` on come to, with n fields read before them, when they are added to v until one is not 255.
--- ends: after k bytes of 255 there is one that is not, b. cut: after k of them the element has no whole byte left, which is 3 at the place of the byte that is missing
+-- ends: after k bytes of 255 there is one that is not, b. cut: after k of them the element has no whole byte left,
+-- which is 3 at the place of the byte that is missing
 pub data Added (s : List ℕ) (v at n : ℕ) (o : Outcome ℕ) : Type 0 where
   ends : (k b : ℕ) → Full s at k → at + 8 * (k + 1) ≤ 8 * length s → valueAt s (at + 8 * k) 8 ≡ b → (b ≡ 255 → ⊥)
       → o ≡ gave (v + 255 * k + b) (at + 8 * (k + 1)) (n + (k + 1)) → Added s v at n o
-  cut : (k : ℕ) → Full s at k → 8 * length s < at + 8 * (k + 1) → o ≡ refused (stop 3 (at + 8 * k) 0 (n + k)) → Added s v at n o
+  cut : (k : ℕ) → Full s at k → 8 * length s < at + 8 * (k + 1) → o ≡ refused (stop 3 (at + 8 * k) 0 (n + k))
+      → Added s v at n o
 
 -- in an element of at most 8,191 bytes MuxSlotLengthBytes has no bound
 abbrev pub SlotIsUnbounded : Type 0
-SlotIsUnbounded = (s : List ℕ) (at n : ℕ) → length s ≤ 8191 → at ≤ 8 * length s → Added s 0 at n (run s muxSlotLengthBytes at n)
+SlotIsUnbounded =
+    (s : List ℕ) (at n : ℕ) → length s ≤ 8191 → at ≤ 8 * length s → Added s 0 at n (run s muxSlotLengthBytes at n)
 
 -- and by it the slot of a stream of frameLengthType 0 is read, in bits
 abbrev pub SlotByLengthBytes : Type 0
-SlotByLengthBytes = (s : List ℕ) (at n slot : ℕ) → run s (slotOf 0 slot) at n ≡ after (run s muxSlotLengthBytes at n) (λ v to m. gave (8 * v) to m)
+SlotByLengthBytes =
+    (s : List ℕ) (at n slot : ℕ) → run s (slotOf 0 slot) at n
+    ≡ after (run s muxSlotLengthBytes at n) (λ v to m. gave (8 * v) to m)
 
--- the streams of a record that 16 does not refuse are those of all its programs, numLayer + 1 of each; an array has 16 places
+-- the streams of a record that 16 does not refuse are those of all its programs, numLayer + 1 of each; an array has 16
+-- places
 abbrev pub StreamsAreAll : Type 0
-StreamsAreAll = (r : Record) → validOf r ≡ true → length (r .streams) ≡ 16 → length (streamsOf r) ≡ streamsIn (r .layers) (r .programs) (r .programs + 1)
+StreamsAreAll =
+    (r : Record) → validOf r ≡ true → length (r .streams) ≡ 16
+    → length (streamsOf r) ≡ streamsIn (r .layers) (r .programs) (r .programs + 1)
 
 module _ (s : List ℕ) (held : Held) (room : ℕ) where
   -- an element is accepted only with room for 1,092 items, and of 1 to 8,191 bytes
   abbrev pub AcceptedFits : Type 0
-  AcceptedFits = (a : Applied) (its : List Item) (n : ℕ) → answer s held room ≡ accepted a its n → (4368 ≤ room) × (1 ≤ length s) × (length s ≤ 8191)
+  AcceptedFits =
+      (a : Applied) (its : List Item) (n : ℕ) → answer s held room ≡ accepted a its n
+      → (4368 ≤ room) × (1 ≤ length s) × (length s ≤ 8191)
 
   -- the items of an accepted element stand one after the other over all its bits
   abbrev pub ItemsTile : Type 0
-  ItemsTile = (a : Applied) (its : List Item) (n : ℕ) → answer s held room ≡ accepted a its n → Tiles 0 its (8 * length s)
+  ItemsTile =
+      (a : Applied) (its : List Item) (n : ℕ) → answer s held room ≡ accepted a its n → Tiles 0 its (8 * length s)
 
   -- each bit lies in exactly one of them, and their widths add up to its bits
   abbrev pub EachBitInOneItem : Type 0
-  EachBitInOneItem = (a : Applied) (its : List Item) (n : ℕ) → answer s held room ≡ accepted a its n → (i : ℕ) → i < 8 * length s → OneItem its i
+  EachBitInOneItem =
+      (a : Applied) (its : List Item) (n : ℕ) → answer s held room ≡ accepted a its n → (i : ℕ) → i < 8 * length s
+      → OneItem its i
 
   abbrev pub WidthsAddUp : Type 0
-  WidthsAddUp = (a : Applied) (its : List Item) (n : ℕ) → answer s held room ≡ accepted a its n → sumWidths its ≡ 8 * length s
+  WidthsAddUp =
+      (a : Applied) (its : List Item) (n : ℕ) → answer s held room ≡ accepted a its n → sumWidths its ≡ 8 * length s
 
   -- the items stand in the order of the map
   abbrev pub MapInOrder : Type 0
@@ -146,10 +160,12 @@ module _ (s : List ℕ) (held : Held) (room : ℕ) where
       → (t : List ℕ) → length t ≡ length s → ((i : ℕ) → i < 8 * length s → ¬ InClosed its i → bitAt t i ≡ bitAt s i)
       → answer t held room ≡ accepted a its n
 
-  -- and the same refusal, where it agrees in every bit before the stop and in the field there, save in payload and other data already passed
+  -- and the same refusal, where it agrees in every bit before the stop and in the field there, save in payload and
+  -- other data already passed
   abbrev pub SameRefused : Type 0
   SameRefused = (r : Stop) (its : List Item) → answer s held room ≡ rejected r its
-      → (t : List ℕ) → length t ≡ length s → ((i : ℕ) → i < r .refusal .place + r .there → ¬ InClosed its i → bitAt t i ≡ bitAt s i)
+      → (t : List ℕ) → length t ≡ length s
+      → ((i : ℕ) → i < r .refusal .place + r .there → ¬ InClosed its i → bitAt t i ≡ bitAt s i)
       → answer t held room ≡ rejected r its
 
   -- where a configuration is sent, what was held plays no part
@@ -158,19 +174,27 @@ module _ (s : List ℕ) (held : Held) (room : ℕ) where
 
   -- a refusal is one of the table's
   abbrev pub RefusalIsNumbered : Type 0
-  RefusalIsNumbered = (r : Stop) (its : List Item) → answer s held room ≡ rejected r its → (1 ≤ r .refusal .number) × (r .refusal .number ≤ 15)
+  RefusalIsNumbered =
+      (r : Stop) (its : List Item) → answer s held room ≡ rejected r its
+      → (1 ≤ r .refusal .number) × (r .refusal .number ≤ 15)
 
   -- 4 is given only where useSameStreamMux is 1 and nothing is held, or a record that 16 refuses,
   abbrev pub FourIsNothingHeld : Type 0
-  FourIsNothingHeld = (r : Stop) (its : List Item) → answer s held room ≡ rejected r its → r .refusal .number ≡ 4 → (bitAt s 0 ≡ 1) × (usable held ≡ false)
+  FourIsNothingHeld =
+      (r : Stop) (its : List Item) → answer s held room ≡ rejected r its → r .refusal .number ≡ 4
+      → (bitAt s 0 ≡ 1) × (usable held ≡ false)
 
   -- and there always, behind 1 and 2
   abbrev pub NothingHeldIsFour : Type 0
-  NothingHeldIsFour = 4368 ≤ room → 1 ≤ length s → length s ≤ 8191 → bitAt s 0 ≡ 1 → usable held ≡ false → answer s held room ≡ rejected (stop 4 0 1 1) []
+  NothingHeldIsFour =
+      4368 ≤ room → 1 ≤ length s → length s ≤ 8191 → bitAt s 0 ≡ 1 → usable held ≡ false
+      → answer s held room ≡ rejected (stop 4 0 1 1) []
 
   -- a configuration that was sent is one that 16 does not refuse
   abbrev pub SentIsValid : Type 0
-  SentIsValid = (a : Applied) (its : List Item) (n : ℕ) → answer s held room ≡ accepted a its n → a .sent ≡ true → validOf (a .config) ≡ true
+  SentIsValid =
+      (a : Applied) (its : List Item) (n : ℕ) → answer s held room ≡ accepted a its n → a .sent ≡ true
+      → validOf (a .config) ≡ true
 
   -- where none was sent, the held one applied, and 16 does not refuse it either
   abbrev pub HeldApplies : Type 0
@@ -180,7 +204,8 @@ module _ (s : List ℕ) (held : Held) (room : ℕ) where
   -- so behind an accepted element that sent a configuration none is refused by 4, whatever it is and whatever its map,
   abbrev pub NextIsNot4 : Type 0
   NextIsNot4 = (a : Applied) (its : List Item) (n : ℕ) → answer s held room ≡ accepted a its n → a .sent ≡ true
-      → (t : List ℕ) (more : ℕ) (r : Stop) (before : List Item) → answer t (replyOf s held room .held) more ≡ rejected r before → r .refusal .number ≡ 4 → ⊥
+      → (t : List ℕ) (more : ℕ) (r : Stop) (before : List Item)
+      → answer t (replyOf s held room .held) more ≡ rejected r before → r .refusal .number ≡ 4 → ⊥
 
   -- and as long as elements are read, accepted or refused, this stays so: what can be used is held on
   abbrev pub UsableStays : Type 0
@@ -192,19 +217,12 @@ module _ (s : List ℕ) (held : Held) (room : ℕ) where
       → a .sent ≡ true → (length (a .config .layers) ≡ 16) × (length (a .config .streams) ≡ 16)
 
 -- each promise allows one answer, and one content of what is lent
-abbrev pub SpannedOnce : Type 0
-SpannedOnce = TellsOnce toldSpanned
-
-abbrev pub LengthsOnce : Type 0
-LengthsOnce = (streams : List Stream) (k : ℕ) (s : List ℕ) (at n : ℕ) (x y : Lengths) → LengthsPromise streams k s at n x → LengthsPromise streams k s at n y → x ≡ y
-
-abbrev pub FinishOnce : Type 1
-FinishOnce = (sent : Bool) (s : List ℕ) (e : Element Unit) (at n : ℕ) (x y : Verdict) (map map₁ map₂ : List ℕ)
-    → FinishPromise sent s e at n map x map₁ → FinishPromise sent s e at n map y map₂ → (x ≡ y) × (map₁ ≡ map₂)
-
 abbrev pub ReadOnce : Type 0
-ReadOnce = (s : List ℕ) (held : Held) (x y : Reply) (map map₁ map₂ : List ℕ) → ReadPromise s held map x map₁ → ReadPromise s held map y map₂ → (x ≡ y) × (map₁ ≡ map₂)
+ReadOnce =
+    (s : List ℕ) (held : Held) (x y : Reply) (map map₁ map₂ : List ℕ) → ReadPromise s held map x map₁
+    → ReadPromise s held map y map₂ → (x ≡ y) × (map₁ ≡ map₂)
 
 abbrev pub ReadWithOnce : Type 0
 ReadWithOnce = (s : List ℕ) (held : Held) (x y : Reply) (map map₁ map₂ : List ℕ) (table table₁ table₂ : List (List ℕ))
-    → ReadWithPromise s held map table x map₁ table₁ → ReadWithPromise s held map table y map₂ table₂ → (x ≡ y) × (map₁ ≡ map₂) × (table₁ ≡ table₂)
+    → ReadWithPromise s held map table x map₁ table₁ → ReadWithPromise s held map table y map₂ table₂
+    → (x ≡ y) × (map₁ ≡ map₂) × (table₁ ≡ table₂)

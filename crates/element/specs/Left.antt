@@ -17,7 +17,8 @@ contentOf kind = cond (eqb kind kindP || eqb kind kindO) (passed closed) (cond (
 -- the first k items of a map: kind, stream, first bit and width of each
 unfoldable pub shown : ℕ → List ℕ → List Item
 shown zero map = []
-shown (suc k) map = item (contentOf (getD map 0 0)) (getD map 0 0) (getD map 1 0) (getD map 2 0) (getD map 3 0) ∷ shown k (drop 4 map)
+shown (suc k) map =
+    item (contentOf (getD map 0 0)) (getD map 0 0) (getD map 1 0) (getD map 2 0) (getD map 3 0) ∷ shown k (drop 4 map)
 
 -- the verdict with what is then held, and the final content of the map and the table lent
 pub record Left : Type 0 where

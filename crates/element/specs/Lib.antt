@@ -1,10 +1,7 @@
--- The element: its tree, the map and the reply of a reading, what inner functions promise, what is left behind, the claims, the demands, the worked cases.
+-- The element: its tree, map and reply of a reading, what is left behind, what readers promise, claims, demands.
 pub mod Mux
 pub mod Reply
-pub mod Parts
 pub mod Left
 pub mod Promises
 pub mod Claims
 pub mod Demands
-pub mod Worked
-pub mod Edges

@@ -1,6 +1,6 @@
 -- AudioMuxElement with muxConfigPresent 1, as a tree of items.
 use mathlib.Core.Bool.{Bool, true, false, _&&_, _||_}
-use mathlib.Core.List.{List, [], _∷_, _++_}
+use mathlib.Core.List.{List, [], _∷_, _++_, map}
 use Prim.Native.Nat.{ℕ, zero, suc, _+_, _*_, _-_, _%_}
 use lib.Dec.{eqb}
 use lib.ListN.{take}
@@ -53,12 +53,12 @@ muxSlotLengthBytes = slotFrom 8192 0
 unfoldable pub slotOf : ℕ → ℕ → Reading ℕ
 slotOf kind slot = choose (eqb kind 0) (muxSlotLengthBytes >>= λ v. give (8 * v)) (give (8 * (slot + 20)))
 
--- PayloadLengthInfo: of all streams, after those of which the slots are ws
-unfoldable pub payloadLengthInfo : List ℕ → List Stream → Reading (List ℕ)
+-- PayloadLengthInfo: of all streams, each slot by its reading, after those that are ws
+unfoldable pub payloadLengthInfo : List ℕ → List (Reading ℕ) → Reading (List ℕ)
 payloadLengthInfo ws [] = give ws
-payloadLengthInfo ws (s ∷ ss) = do
-  w ← slotOf (s .kind) (s .slot)
-  payloadLengthInfo (ws ++ (w ∷ [])) ss
+payloadLengthInfo ws (slot ∷ slots) = do
+  w ← slot
+  payloadLengthInfo (ws ++ (w ∷ [])) slots
 
 -- one item passed over
 abbrev pub passOver : Passing → ℕ → ℕ → ℕ → Element Unit
@@ -70,12 +70,12 @@ payloadMux i [] = done tt
 payloadMux i (w ∷ ws) = over closed kindP i w (payloadMux (i + 1) ws)
 
 -- all lengths, then all payloads
-unfoldable pub subframe : List Stream → Element Unit
-subframe ss = part (List ℕ) kindL (payloadLengthInfo [] ss) λ ws. payloadMux 0 ws
+unfoldable pub subframe : List (Reading ℕ) → Element Unit
+subframe slots = part (List ℕ) kindL (payloadLengthInfo [] slots) λ ws. payloadMux 0 ws
 
-unfoldable pub subframes : ℕ → List Stream → Element Unit
-subframes zero ss = done tt
-subframes (suc n) ss = follow (subframe ss) λ _. subframes n ss
+unfoldable pub subframes : ℕ → List (Reading ℕ) → Element Unit
+subframes zero slots = done tt
+subframes (suc n) slots = follow (subframe slots) λ _. subframes n slots
 
 -- other data, where otherDataPresent is 1
 unfoldable pub otherData : Bool → ℕ → Element Unit
@@ -86,15 +86,18 @@ otherData false w = done tt
 unfoldable pub byteAlignment : Element Unit
 byteAlignment = spot λ p. passOver spare kindA 0 ((8 - p % 8) % 8)
 
+-- what follows the configuration: the subframes, other data and alignment
+unfoldable pub rest : ℕ → List (Reading ℕ) → Bool → ℕ → Element Unit
+rest n slots other bits = follow (subframes n slots) λ _. follow (otherData other bits) λ _. byteAlignment
+
 abbrev pub streamsOf : Record → List Stream
 streamsOf r = take (streamsIn (r .layers) (r .programs) 16) (r .streams)
 
--- what follows the configuration: the subframes, other data and alignment
-unfoldable pub rest : ℕ → List Stream → Bool → ℕ → Element Unit
-rest n ss other bits = follow (subframes n ss) λ _. follow (otherData other bits) λ _. byteAlignment
+abbrev pub slotsOf : List Stream → List (Reading ℕ)
+slotsOf ss = map (λ s. slotOf (s .kind) (s .fixed)) ss
 
 abbrev pub body : Record → Element Unit
-body r = rest (r .subframes + 1) (streamsOf r) (eqb (r .other) 1) (r .bits)
+body r = rest (r .subframes + 1) (slotsOf (streamsOf r)) (eqb (r .other) 1) (r .bits)
 
 unfoldable pub applied : Applied → Element Applied
 applied a = follow (body (a .config)) λ _. done a

@@ -1,4 +1,5 @@
--- What a reading of an element replies: refusals 1 and 2 first, then those of the fields; what is then held; and every number of the map lent.
+-- What a reading of an element replies: refusals 1 and 2 first, then those of the fields; what is then held; and every
+-- number of the map lent.
 use mathlib.Core.Bool.{true, false, cond, _||_}
 use mathlib.Core.List.{List, [], _∷_, _++_}
 use Prim.Native.Nat.{ℕ, _*_}

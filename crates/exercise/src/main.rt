@@ -1,24 +1,21 @@
 // Takes a script of cases and prints every answer in full, as docs/SCRIPT.md says.
-mod reading;
-mod writing;
-
 use element::Held;
 use element::nothing_held;
-use reading::Next;
-use reading::after;
 use script::number;
+use script_reading::Next;
+use script_reading::after;
 
 // One case, by the letter of its kind.
 fn one(held: Held, numbers: &mut [u32], bytes: &mut [u8], more: &mut [u8], out: &mut [u8]) -> Next {
     let kind = number(1);
     let r = held.config;
     match kind {
-        0x48 => reading::hold(held, numbers),
-        0x52 => reading::read(held, bytes, numbers),
-        0x57 => after(held, reading::rows(r)),
-        0x53 => after(held, reading::hunt(bytes)),
-        0x50 => after(held, writing::write(r, numbers, bytes, more, out)),
-        0x46 => after(held, writing::frame(bytes, out)),
+        0x48 => script_reading::hold(held, numbers),
+        0x52 => script_reading::read(held, bytes, numbers),
+        0x57 => after(held, script_reading::rows(r)),
+        0x53 => after(held, script_reading::hunt(bytes)),
+        0x50 => after(held, script_writing::write(r, numbers, bytes, more, out)),
+        0x46 => after(held, script_writing::frame(bytes, out)),
         _ => after(held, false),
     }
 }

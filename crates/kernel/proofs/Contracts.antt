@@ -2,7 +2,8 @@
 use mathlib.Core.Path.{sym, _∙_}
 use denote.Ref.{now}
 use Rattle.kernel.specs.Promises.{AllowsOne, AllowsOneOutcome, AllowsOneOfBytes}
-use Rattle.kernel.proofs.Theorems.{fetched-once, skipped-once, put-fixes-all, stored-once}
+use Rattle.kernel.proofs.Theorems.{fetched-once, reached-once, put-fixes-all, stored-once}
+use Rattle.kernel.proofs.refused_at.Reads as refused-at
 use Rattle.kernel.proofs.unread.Reads as unread
 use Rattle.kernel.proofs.fetch.Reads as fetch
 use Rattle.kernel.proofs.why.Reads as why
@@ -12,6 +13,9 @@ use Rattle.kernel.proofs.put_bytes.Reads as put-bytes
 use Rattle.kernel.proofs.put_some.Reads as put-some
 use Rattle.kernel.proofs.store.Reads as store
 use Rattle.kernel.proofs.lay.Reads as lay
+
+pub refused-at-allows-one : AllowsOne refused-at.Learnt (λ k r e. r)
+refused-at-allows-one k a x y e f p q = p ∙ sym q
 
 pub unread-allows-one : AllowsOne unread.Learnt (λ k r e. r)
 unread-allows-one k a x y e f p q = p ∙ sym q
@@ -23,7 +27,7 @@ pub why-allows-one : AllowsOne why.Learnt (λ k r e. r)
 why-allows-one k a x y e f p q = p ∙ sym q
 
 pub skip-allows-one : AllowsOne skip.Learnt (λ k r e. r)
-skip-allows-one k a x y e f p q = skipped-once _ _ _ _ x y p q
+skip-allows-one k a x y e f p q = reached-once _ _ _ _ x y p q
 
 pub put-allows-one : AllowsOneOfBytes put.Learnt (λ k e. now (e .0))
 put-allows-one k a x y e f g h p q = put-fixes-all _ _ _ _ _ x y g h (p .1) (q .1)

@@ -10,7 +10,8 @@ use borrow.Author.Tests.{ltb-false}
 use Rattle.kernel.specs.declared.Window.{Window}
 use Rattle.kernel.specs.declared.Window.the-variants.{Open, UpTo}
 use Rattle.kernel.specs.Bits.{valueAt}
-use Rattle.kernel.specs.Reading.{Reading, give, refuse, refuseAfter, fieldThen, passThen, hereThen, field, pass, here, choose, need, _>>=_, _>>_, Outcome, gave, refused, fits, short, fit, run}
+use Rattle.kernel.specs.Reading.{Reading, give, refuse, refuseAfter, fieldThen, passThen, hereThen, field, pass}
+use Rattle.kernel.specs.Reading.{here, choose, need, _>>=_, _>>_, Outcome, gave, refused, fits, short, fit, run}
 use Rattle.kernel.specs.Trip.{InWindow}
 use Rattle.kernel.proofs.Run.{by-fit}
 use Rattle.kernel.proofs.Values.{value-lt}
@@ -49,8 +50,10 @@ module _ {A : Type 0} (Q : A → ℕ → Type 0) where
   runs s (refuseAfter win w m b) p n h = by-fit (Ended Q) (fit win (8 * length s) (p + w)) p n _ (λ _. tt) (λ _. tt)
   runs s (fieldThen win w k) p n h =
       by-fit (Ended Q) (fit win (8 * length s) (p + w)) p n _
-      (λ f. runs s (k (valueAt s p w)) (p + w) (n + min w 1) (h (valueAt s p w) (value-lt s p w) (fit-window win (8 * length s) (p + w) f))) (λ _. tt)
-  runs s (passThen win w k) p n h = by-fit (Ended Q) (fit win (8 * length s) (p + w)) p n _ (λ f. runs s k (p + w) n h) (λ _. tt)
+      (λ f. runs s (k (valueAt s p w)) (p + w) (n + min w 1)
+      (h (valueAt s p w) (value-lt s p w) (fit-window win (8 * length s) (p + w) f))) (λ _. tt)
+  runs s (passThen win w k) p n h =
+      by-fit (Ended Q) (fit win (8 * length s) (p + w)) p n _ (λ f. runs s k (p + w) n h) (λ _. tt)
   runs s (hereThen k) p n h = runs s (k p) p n h
 
   -- so of every run
@@ -70,7 +73,8 @@ module _ {A : Type 0} {Q : A → ℕ → Type 0} where
   unfolding AllEnd
   end-refuse-after = record { all = tt }
 
-  pub end-choose : (t : Bool) {x y : Reading A} {p : ℕ} → (t ≡ true → Ends Q x p) → (t ≡ false → Ends Q y p) → Ends Q (choose t x y) p
+  pub end-choose : (t : Bool) {x y : Reading A} {p : ℕ} → (t ≡ true → Ends Q x p) → (t ≡ false → Ends Q y p)
+      → Ends Q (choose t x y) p
   unfolding choose
   end-choose true h g = h refl
   end-choose false h g = g refl
@@ -88,12 +92,14 @@ module _ {A : Type 0} {Q : A → ℕ → Type 0} where
   unfolding pass _>>_ _>>=_ AllEnd
   end-pass win w h = record { all = h .all }
 
-  pub end-field : (win : Window) (w : ℕ) (f : ℕ → Reading A) {p : ℕ} → ((v : ℕ) → v < 2 ^ w → InWindow win (p + w) → Ends Q (f v) (p + w)) → Ends Q (field win w >>= f) p
+  pub end-field : (win : Window) (w : ℕ) (f : ℕ → Reading A) {p : ℕ}
+      → ((v : ℕ) → v < 2 ^ w → InWindow win (p + w) → Ends Q (f v) (p + w)) → Ends Q (field win w >>= f) p
   unfolding field _>>=_ AllEnd
   end-field win w f h = record { all = λ v l i. h v l i .all }
 
 -- a field that is the last
-pub end-last : {Q : ℕ → ℕ → Type 0} (win : Window) (w : ℕ) {p : ℕ} → ((v : ℕ) → v < 2 ^ w → InWindow win (p + w) → Q v (p + w)) → Ends Q (field win w) p
+pub end-last : {Q : ℕ → ℕ → Type 0} (win : Window) (w : ℕ) {p : ℕ}
+    → ((v : ℕ) → v < 2 ^ w → InWindow win (p + w) → Q v (p + w)) → Ends Q (field win w) p
 unfolding field AllEnd
 end-last win w h = record { all = h }
 
@@ -123,5 +129,6 @@ module _ {A : Type 0} (P Q : A → ℕ → Type 0) where
   maps (hereThen k) p h g = maps (k p) p h g
 
 -- what follows from it
-pub end-map : {A : Type 0} {P Q : A → ℕ → Type 0} {m : Reading A} {p : ℕ} → ((a : A) (q : ℕ) → P a q → Q a q) → Ends P m p → Ends Q m p
+pub end-map : {A : Type 0} {P Q : A → ℕ → Type 0} {m : Reading A} {p : ℕ} → ((a : A) (q : ℕ) → P a q → Q a q)
+    → Ends P m p → Ends Q m p
 end-map {P = P} {Q = Q} {m = m} {p = p} g h = record { all = maps P Q m p (h .all) g }

@@ -1,4 +1,5 @@
--- What all answers of a tree keep to: R of the number of every refusal, and P of every answer, each field being below 2 ^ its width.
+-- What all answers of a tree keep to: R of the number of every refusal, and P of every answer, each field being below 2
+-- ^ its width.
 use mathlib.Core.Path.{_≡_, refl}
 use mathlib.Core.Bool.{Bool, true, false, cond}
 use mathlib.Core.List.{List}
@@ -8,8 +9,11 @@ use lib.ListN.{length}
 use Rattle.kernel.specs.declared.Window.{Window}
 use Rattle.kernel.specs.declared.Window.the-variants.{Open}
 use Rattle.kernel.specs.Bits.{valueAt}
-use Rattle.kernel.specs.Reading.{Reading, give, refuse, refuseAfter, fieldThen, passThen, hereThen, _>>=_, _>>_, field, pass, here, choose, need, Outcome, gave, refused, Fit, fits, short, passes, fit, onFit, run}
-use Rattle.kernel.specs.Element.{Element, done, part, over, spot, Item, Passage, came, fell, withItem, overFit, next, walk, follow, Answer, accepted, rejected, ended}
+use Rattle.kernel.specs.Reading.{Reading, give, refuse, refuseAfter, fieldThen, passThen, hereThen, _>>=_, _>>_}
+use Rattle.kernel.specs.Reading.{field, pass, here, choose, need, Outcome, gave, refused, Fit, fits, short}
+use Rattle.kernel.specs.Reading.{passes, fit, onFit, run}
+use Rattle.kernel.specs.Element.{Element, done, part, over, spot, Item, Passage, came, fell, withItem, overFit}
+use Rattle.kernel.specs.Element.{next, walk, follow, Answer, accepted, rejected, ended}
 use Rattle.kernel.proofs.Values.{value-lt}
 
 pub chosen : {A : Type 0} (P : A → Type 0) (t : Bool) (a b : A) → P a → P b → P (cond t a b)
@@ -31,7 +35,8 @@ Keeps R P (passThen win w k) = Keeps R P k
 Keeps R P (hereThen k) = (p : ℕ) → Keeps R P (k p)
 
 module _ {A B : Type 0} (R : ℕ → Type 0) (P : A → Type 0) (Q : B → Type 0) where
-  keeps-bind : (m : Reading A) (f : A → Reading B) → Keeps R P m → ((a : A) → P a → Keeps R Q (f a)) → Keeps R Q (m >>= f)
+  keeps-bind : (m : Reading A) (f : A → Reading B) → Keeps R P m → ((a : A) → P a → Keeps R Q (f a))
+      → Keeps R Q (m >>= f)
   unfolding Keeps _>>=_
   keeps-bind (give a) f p q = q a p
   keeps-bind (refuse m b) f p q = p
@@ -68,7 +73,8 @@ module _ {R : ℕ → Type 0} where
     unfolding Keeps
     refuses-after p = record { is = p }
 
-    pub either : (t : Bool) {x y : Reading A} → (t ≡ true → Kept R P x) → (t ≡ false → Kept R P y) → Kept R P (choose t x y)
+    pub either : (t : Bool) {x y : Reading A} → (t ≡ true → Kept R P x) → (t ≡ false → Kept R P y)
+        → Kept R P (choose t x y)
     unfolding choose
     either true p q = p refl
     either false p q = q refl
@@ -129,12 +135,14 @@ module _ {A : Type 0} (R : ℕ → Type 0) (P : A → Type 0) where
     unfolding Keeps run
     run-keeps (give a) at n p = p
     run-keeps (refuse m b) at n p = p
-    run-keeps (refuseAfter win w m b) at n p = out-fit (fit win (8 * length s) (at + w)) at n _ (fit-kept R three ten win (8 * length s) (at + w)) p
+    run-keeps (refuseAfter win w m b) at n p =
+        out-fit (fit win (8 * length s) (at + w)) at n _ (fit-kept R three ten win (8 * length s) (at + w)) p
     run-keeps (fieldThen win w k) at n p =
         out-fit (fit win (8 * length s) (at + w)) at n _ (fit-kept R three ten win (8 * length s) (at + w))
         (run-keeps (k (valueAt s at w)) (at + w) (n + min w 1) (p (valueAt s at w) (value-lt s at w)))
     run-keeps (passThen win w k) at n p =
-        out-fit (fit win (8 * length s) (at + w)) at n _ (fit-kept R three ten win (8 * length s) (at + w)) (run-keeps k (at + w) n p)
+        out-fit (fit win (8 * length s) (at + w)) at n _ (fit-kept R three ten win (8 * length s) (at + w))
+        (run-keeps k (at + w) n p)
     run-keeps (hereThen k) at n p = run-keeps (k at) at n (p at)
 
     pub run-kept : {m : Reading A} (at n : ℕ) → Kept R P m → Out (run s m at n)
@@ -149,10 +157,12 @@ KeepsAll R P (over c kind stream w e) = KeepsAll R P e
 KeepsAll R P (spot f) = (p : ℕ) → KeepsAll R P (f p)
 
 module _ {A B : Type 0} (R : ℕ → Type 0) (P : A → Type 0) (Q : B → Type 0) where
-  pub keeps-follow : (e : Element A) (g : A → Element B) → KeepsAll R P e → ((a : A) → P a → KeepsAll R Q (g a)) → KeepsAll R Q (follow e g)
+  pub keeps-follow : (e : Element A) (g : A → Element B) → KeepsAll R P e → ((a : A) → P a → KeepsAll R Q (g a))
+      → KeepsAll R Q (follow e g)
   unfolding KeepsAll follow
   keeps-follow (done a) g p q = q a p
-  keeps-follow (part C kind m f) g p q = keeps-map R (λ b. KeepsAll R P (f b)) (λ b. KeepsAll R Q (follow (f b) g)) m p (λ b h. keeps-follow (f b) g h q)
+  keeps-follow (part C kind m f) g p q =
+      keeps-map R (λ b. KeepsAll R P (f b)) (λ b. KeepsAll R Q (follow (f b) g)) m p (λ b h. keeps-follow (f b) g h q)
   keeps-follow (over c kind stream w e) g p q = keeps-follow e g p q
   keeps-follow (spot f) g p q = λ v. keeps-follow (f v) g (p v) q
 
@@ -182,10 +192,12 @@ module _ {A : Type 0} (R : ℕ → Type 0) (P : A → Type 0) where
     unfolding KeepsAll walk
     walk-keeps (done a) at n p = p
     walk-keeps (part B kind m f) at n p =
-        come-next (λ b. KeepsAll R P (f b)) kind at (run s m at n) (λ b at′ n′. walk s (f b) at′ n′) (run-keeps R (λ b. KeepsAll R P (f b)) three ten s m at n p)
+        come-next (λ b. KeepsAll R P (f b)) kind at (run s m at n) (λ b at′ n′. walk s (f b) at′ n′)
+        (run-keeps R (λ b. KeepsAll R P (f b)) three ten s m at n p)
         (λ b at′ n′ h. walk-keeps (f b) at′ n′ h)
     walk-keeps (over c kind stream w e) at n p =
-        come-fit (fit Open (8 * length s) (at + w)) at n _ (fit-kept R three ten Open (8 * length s) (at + w)) (come-item _ (walk s e (at + w) n) (walk-keeps e (at + w) n p))
+        come-fit (fit Open (8 * length s) (at + w)) at n _ (fit-kept R three ten Open (8 * length s) (at + w))
+        (come-item _ (walk s e (at + w) n) (walk-keeps e (at + w) n p))
     walk-keeps (spot f) at n p = walk-keeps (f at) at n (p at)
 
   -- an answer
@@ -198,6 +210,7 @@ module _ {A : Type 0} (R : ℕ → Type 0) (P : A → Type 0) where
   told-end fifteen bits (fell r its) p = p
 
 -- what follows from R of every refusal
-pub come-so : {A : Type 0} (R S : ℕ → Type 0) (P : A → Type 0) (x : Passage A) → ((m : ℕ) → R m → S m) → Come R P x → Come S P x
+pub come-so : {A : Type 0} (R S : ℕ → Type 0) (P : A → Type 0) (x : Passage A) → ((m : ℕ) → R m → S m) → Come R P x
+    → Come S P x
 come-so R S P (came a its at n) f p = p
 come-so R S P (fell r its) f p = f (r .refusal .number) p

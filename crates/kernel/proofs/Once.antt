@@ -8,8 +8,9 @@ use Rattle.kernel.specs.Promises.{TellsOnce}
 module _ {R A : Type 0} where
   -- the answer that tells this, made by its two variants
   abbrev pub answerOf : (A → Cursor → R) → (Refusal → R) → Told A → R
-  answerOf v f (value a at n) = v a (record { at = at; read = n })
+  answerOf v f (value a at n) = v a (record { at = at; fields = n })
   answerOf v f (refusal x) = f x
 
-  pub once-by : (t : R → Told A) (v : A → Cursor → R) (f : Refusal → R) → ((x : R) → answerOf v f (t x) ≡ x) → TellsOnce t
+  pub once-by : (t : R → Told A) (v : A → Cursor → R) (f : Refusal → R) → ((x : R) → answerOf v f (t x) ≡ x)
+      → TellsOnce t
   once-by t v f back s m at n x y p q = sym (back x) ∙ ap (answerOf v f) (p ∙ sym q) ∙ back y

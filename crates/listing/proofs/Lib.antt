@@ -1,5 +1,6 @@
--- Laws that the proofs of several functions share, and the theorem.
+-- Laws that the proofs of several functions share, and the theorems.
 pub mod Lines
 pub mod Digits
-pub mod Frames
+pub mod Blocks
 pub mod Theorems
+pub mod Contracts

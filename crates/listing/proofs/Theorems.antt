@@ -5,22 +5,32 @@ use Rattle.kernel.specs.Reading.{_>>=_, _>>_, field, pass, here, choose, need, 
 use Rattle.kernel.specs.Element.{withItem, overFit, next, walk, follow}
 use Rattle.kernel.specs.Lists.{tab, allOf}
 use Rattle.records.specs.Table.{streamsIn, tableOf}
-use Rattle.asc.specs.Values.{bytesFrom, latmGetValue}
-use Rattle.asc.specs.Asc.{objectType, anyType, frequency, channelConfiguration, unset, psExtension, psTail, sbrExtension, extensionType, syncExtension, tail, gaSpecificConfig, alone, audioSpecificConfig}
-use Rattle.config.specs.Mux.{windowed, configuration, frameLength, layer, layers, programs, muxHead, muxTail, streamMuxConfig}
-use Rattle.element.specs.Mux.{slotFrom, muxSlotLengthBytes, slotOf, payloadLengthInfo, payloadMux, subframe, subframes, otherData, byteAlignment, applied, useSameStreamMux, afterFlag, audioMuxElement, rest}
+use Rattle.numbers.specs.Values.{bytesFrom, latmGetValue}
+use Rattle.asc.specs.Asc.{objectType, anyType, frequency, channelConfiguration, unset, psExtension, psTail}
+use Rattle.asc.specs.Asc.{sbrExtension, extensionType, syncExtension, tail, gaSpecificConfig, alone}
+use Rattle.asc.specs.Asc.{audioSpecificConfig}
+use Rattle.config.specs.Mux.{windowed, configuration, frameLength, layer, layers, programs, muxHead, muxTail}
+use Rattle.config.specs.Mux.{streamMuxConfig}
+use Rattle.element.specs.Mux.{slotFrom, muxSlotLengthBytes, slotOf, payloadLengthInfo, payloadMux, subframe, subframes}
+use Rattle.element.specs.Mux.{otherData, byteAlignment, applied, useSameStreamMux, afterFlag, audioMuxElement, rest}
 use Rattle.element.specs.Reply.{answer}
 use Rattle.sync.specs.Sync.{firstOf}
-use Rattle.listing.specs.Listing.{listedFrom, itemLines}
+use Rattle.capture.specs.Frames.{framesFrom, start}
+use Rattle.capture.specs.Blocks.{textOf}
+use Rattle.capture.proofs.Theorems.{blocks-are-whole}
+use Rattle.listing.specs.Listing.{itemLines, framed, unchanged}
 use Rattle.listing.specs.Claims.{WorkedListing, LettersOfKinds, LetterOfRefusal, NothingIsLost, ListingIsWhole}
 use Rattle.listing.proofs.Digits.{all-said}
-use Rattle.listing.proofs.Frames.{listing-whole}
 
 pub worked-listing : WorkedListing
-unfolding listedFrom itemLines firstOf answer audioMuxElement afterFlag useSameStreamMux applied rest byteAlignment otherData subframes subframe payloadMux
-    payloadLengthInfo slotOf muxSlotLengthBytes slotFrom streamMuxConfig muxTail muxHead programs layers layer frameLength configuration windowed
-    audioSpecificConfig alone gaSpecificConfig tail syncExtension extensionType sbrExtension psTail psExtension unset channelConfiguration
-    frequency anyType objectType latmGetValue bytesFrom allOf tableOf streamsIn tab follow walk next overFit withItem run onFit fit need choose here
+unfolding textOf framesFrom itemLines firstOf answer audioMuxElement afterFlag useSameStreamMux applied rest
+    byteAlignment otherData subframes subframe payloadMux
+    payloadLengthInfo slotOf muxSlotLengthBytes slotFrom streamMuxConfig muxTail muxHead programs layers layer
+    frameLength configuration windowed
+    audioSpecificConfig alone gaSpecificConfig tail syncExtension extensionType sbrExtension psTail psExtension unset
+    channelConfiguration
+    frequency anyType objectType latmGetValue bytesFrom allOf tableOf streamsIn tab follow walk next overFit withItem
+    run onFit fit need choose here
     pass field _>>=_ _>>_ valueAt bitAt
 worked-listing = refl
 
@@ -34,4 +44,4 @@ pub nothing-is-lost : NothingIsLost
 nothing-is-lost = all-said
 
 pub listing-is-whole : ListingIsWhole
-listing-is-whole = listing-whole
+listing-is-whole s size h = blocks-are-whole (Unit {0}) framed unchanged 26208 size s 4368 tt start h

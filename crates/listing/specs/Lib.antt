@@ -1,4 +1,4 @@
 -- The listing, what its functions promise on the way, and what is claimed of it.
 pub mod Listing
-pub mod Stored
+pub mod Laid
 pub mod Claims

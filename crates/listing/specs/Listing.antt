@@ -1,15 +1,12 @@
 -- The listing: records of 24 bytes, one for each item of an accepted element, and one for a refused element.
 use mathlib.Core.List.{List, [], _∷_, _++_}
-use Prim.Native.Nat.{ℕ, zero, suc, _+_, _/_, _%_}
-use lib.ListN.{length, getD}
+use Prim.Native.Nat.{ℕ, _+_, _/_, _%_}
+use lib.ListN.{getD}
 use Rattle.kernel.specs.Element.{Item, Answer, accepted, rejected}
 use Rattle.text.specs.Text.{letters}
-use Rattle.sync.specs.declared.Hunted.{Hunted}
-use Rattle.sync.specs.declared.Hunted.the-variants.{Found, Refused}
-use Rattle.sync.specs.Sync.{huntOf, elementAt}
-use Rattle.element.specs.declared.Held.{Held}
 use Rattle.element.specs.Mux.{Applied}
-use Rattle.element.specs.Reply.{nothingHeld, answer, heldAfter}
+use Rattle.capture.specs.Frames.{Seen, start, framesOf}
+use Rattle.capture.specs.Blocks.{textOf}
 
 -- the digit of n at a place 1, 10, 100, ..
 abbrev pub digitAt : ℕ → ℕ → ℕ
@@ -18,7 +15,8 @@ digitAt n place = 48 + n / place % 10
 -- element number, kind letter, stream, first bit, width, one space between, newline
 abbrev pub lineOf : ℕ → ℕ → ℕ → ℕ → ℕ → List ℕ
 lineOf number letter stream first width =
-    digitAt number 100000 ∷ digitAt number 10000 ∷ digitAt number 1000 ∷ digitAt number 100 ∷ digitAt number 10 ∷ digitAt number 1
+    digitAt number 100000 ∷ digitAt number 10000 ∷ digitAt number 1000 ∷ digitAt number 100 ∷ digitAt number 10 ∷
+    digitAt number 1
     ∷ 32 ∷ letter ∷ 32
     ∷ digitAt stream 10 ∷ digitAt stream 1
     ∷ 32
@@ -48,21 +46,16 @@ refusedLine number refusal place count = lineOf number 88 refusal place count
 -- the records of the element with this number
 abbrev pub listed : ℕ → Answer Applied → List ℕ
 listed number (accepted a its n) = itemLines number its
-listed number (rejected r its) = refusedLine number (r .refusal .number) (r .refusal .place) (r .refusal .read)
+listed number (rejected r its) = refusedLine number (r .refusal .number) (r .refusal .place) (r .refusal .fields)
 
--- a hunt's frame, and what a function of its place and length gives; nothing where none is found
-abbrev pub forFrame : Hunted → (ℕ → ℕ → List ℕ) → List ℕ
-forFrame (Found p n) f = f p n
-forFrame (Refused x) f = []
+-- the records of a frame
+abbrev pub framed : Unit {0} → Seen → List ℕ
+framed x m = listed (m .number) (m .reading)
 
-module _ (s : List ℕ) where
-  -- at most k frames of a capture, from byte `at` on
-  unfoldable pub listedFrom : ℕ → ℕ → ℕ → Held → List ℕ
-  listedFrom zero at number held = []
-  listedFrom (suc k) at number held = forFrame (huntOf s at) λ p n.
-      let x = answer (elementAt s p n) held 4368 in
-      listed number x ++ listedFrom k (p + 3 + n) (number + 1) (heldAfter held x)
+-- nothing is remembered from frame to frame
+abbrev pub unchanged : Unit {0} → Seen → Unit {0}
+unchanged x m = x
 
 -- the listing of a capture
 abbrev pub listingOf : List ℕ → List ℕ
-listingOf s = listedFrom s (length s) 0 0 nothingHeld
+listingOf s = textOf framed unchanged tt (framesOf s 4368 start)

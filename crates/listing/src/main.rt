@@ -1,17 +1,19 @@
 // Lists a capture: a record of 24 bytes for each item of an accepted element, and one for a refused element.
 ghost use mathlib.Core.Path.{_≡_};
 ghost use Prim.Native.Nat.{_+_, _*_, _≤_};
-ghost use lib.ListN.{length, drop};
+ghost use lib.ListN.{length};
 ghost use Rattle.kernel.specs.Lists.{Stored};
-ghost use Rattle.element.specs.Reply.{answer, replyOf};
-ghost use Rattle.listing.specs.Listing.{lineOf, letterOf, refusedLine, listed};
-ghost use Rattle.listing.specs.Stored.{firstLine, mapLines, verdictLines, Within};
-use element::Held;
+ghost use Rattle.listing.specs.Listing.{lineOf, letterOf, refusedLine};
+ghost use Rattle.listing.specs.Laid.{lineBy, mapLines, verdictLines, Within, BlockPromise};
+use capture::Found;
+use capture::Point;
+use capture::advance;
+use capture::block_room;
 use element::Verdict;
-use element::nothing_held;
+use items::Item;
+use items::item_at;
 use kernel::Refusal;
 use kernel::lay;
-use sync::Hunted;
 
 fn line_of(number: usize, letter: u8, stream: usize, first: usize, width: usize) -> [u8; 24]
     ensures { λ r. ⌜ r ≡ lineOf number letter stream first width ⌝ }
@@ -57,93 +59,125 @@ fn letter_of(kind: u32) -> u8
     63
 }
 
-// The record of the item whose numbers stand from `at` on.
-fn item_line(number: usize, map: &[u32], at: usize) -> [u8; 24]
-    requires { ⌜ at + 4 ≤ length (now map) ⌝ }
-    ensures { λ r. ⌜ r ≡ firstLine number (drop at (now (map .entry))) ⌝ }
+// The record of an item.
+fn item_line(number: usize, it: Item) -> [u8; 24]
+    ensures { λ r. ⌜ r ≡ lineBy number it ⌝ }
 {
-    let letter = letter_of(map[at]);
+    let letter = letter_of(it.kind);
     line_of(
         number,
         letter,
-        map[at + 1] as usize,
-        map[at + 2] as usize,
-        map[at + 3] as usize,
+        it.stream as usize,
+        it.first as usize,
+        it.width as usize,
     )
 }
 
-// The records of a map's first items; the byte behind them.
-fn lay_items(out: &mut [u8], number: usize, map: &[u32], items: usize) -> usize
-    requires { ⌜ (4 * items ≤ length (now map)) × (items ≤ 1092) ⌝ }
-    ensures { λ r. ⌜ (r ≡ 24 * items) × Stored (now (out .entry)) 0 (mapLines number items (now (map .entry))) (now (out .exit)) r ⌝ }
+// The records of a map's first items, from byte `at` on; the byte behind them.
+fn lay_items(out: &mut [u8], at: usize, number: usize, map: &[u32], items: usize) -> usize
+    requires { ⌜ (at ≤ 65536) × (items ≤ 1092) ⌝ }
+    ensures { λ r. ⌜ (r ≡ at + 24 * items)
+        × Stored (now (out .entry)) at (mapLines number (now (map .entry)) 0 items) (now (out .exit)) r ⌝ }
 {
-    let mut at: usize = 0;
+    let mut to = at;
     let mut i: usize = 0;
     while i < items {
-        let line = item_line(number, map, 4 * i);
-        at = lay(out, at, &line);
+        let it = item_at(map, i);
+        let line = item_line(number, it);
+        to = lay(out, to, &line);
         i += 1;
     }
-    at
+    to
 }
 
-fn lay_refused(out: &mut [u8], number: usize, x: Refusal) -> usize
-    ensures { λ r. ⌜ (r ≡ 24) × Stored (now (out .entry)) 0 (refusedLine number (x .number) (x .place) (x .read)) (now (out .exit)) r ⌝ }
+fn lay_refused(out: &mut [u8], at: usize, number: usize, x: Refusal) -> usize
+    requires { ⌜ at ≤ 65536 ⌝ }
+    ensures { λ r. ⌜ (r ≡ at + 24)
+        × Stored (now (out .entry)) at (refusedLine number (x .number) (x .place) (x .fields)) (now (out .exit)) r ⌝ }
 {
-    let line = line_of(number, 88, x.number, x.place, x.read);
-    lay(out, 0, &line)
+    let line = line_of(number, 88, x.number, x.place, x.fields);
+    lay(out, at, &line)
 }
 
-fn lay_verdict(out: &mut [u8], number: usize, v: Verdict, map: &[u32]) -> usize
-    requires { ⌜ (length (now map) ≡ 4368) × Within v ⌝ }
-    ensures { λ r. ⌜ (r ≤ 26208) × Stored (now (out .entry)) 0 (verdictLines number v (now (map .entry))) (now (out .exit)) r ⌝ }
+// The records of an element, by its verdict and its map.
+fn lay_verdict(out: &mut [u8], at: usize, number: usize, v: Verdict, map: &[u32]) -> usize
+    requires { ⌜ (at ≤ 65536) × Within v ⌝ }
+    ensures { λ r. ⌜ (r ≤ at + 26208)
+        × Stored (now (out .entry)) at (verdictLines number v (now (map .entry))) (now (out .exit)) r ⌝ }
 {
     match v {
-        Verdict::Accepted(items, _, _) => lay_items(out, number, map, items as usize),
-        Verdict::Refused(x) => lay_refused(out, number, x),
+        Verdict::Accepted(items, _, _) => lay_items(out, at, number, map, items as usize),
+        Verdict::Refused(x) => lay_refused(out, at, number, x),
     }
 }
 
-// What is then held, and the bytes of text.
-struct Listed {
-    held: Held,
+// Where the listing is come to, the bytes of records laid, and whether no frame is left.
+struct Block {
+    reached: Point,
     bytes: usize,
+    ended: bool,
 }
 
-// The records of one element, at the start of `out`.
-fn list_element(out: &mut [u8], number: usize, el: &[u8], held: Held, map: &mut [u32]) -> Listed
+// The records of one frame after the other, as long as 65,536 bytes of `out` have room for 1,092 of them. Map
+// and table are scratch.
+fn lay_frames(
+    capture: &[u8],
+    from: Point,
+    map: &mut [u32],
+    table: &mut [[u8; 8]; 16],
+    out: &mut [u8],
+) -> Block
     requires { ⌜ length (now map) ≡ 4368 ⌝ }
-    ensures held { λ r. ⌜ r .held ≡ replyOf (now (el .entry)) held 4368 .held ⌝ }
-    ensures text { λ r. ⌜ (r .bytes ≤ 26208) × Stored (now (out .entry)) 0 (listed number (answer (now (el .entry)) held 4368)) (now (out .exit)) (r .bytes) ⌝ }
+    ensures block { λ r. ⌜ BlockPromise (now (capture .entry)) from (now (out .entry)) r (now (out .exit)) ⌝ }
+    ensures few { λ r. ⌜ r .bytes ≤ length (now (out .entry)) ⌝ }
 {
-    let reply = element::read(el, held, map);
-    let v = reply.verdict;
-    let bytes = lay_verdict(out, number, v, map);
-    let kept = reply.held;
-    Listed {
-        held: kept,
-        bytes: bytes,
+    let room = block_room(out.len());
+    let mut reached = from;
+    let mut used: usize = 0;
+    while used + 26208 <= room {
+        let step = advance(capture, reached, map, table);
+        let found = step.found;
+        let Found::Frame(_, _, v) = found else {
+            return Block {
+                reached: reached,
+                bytes: used,
+                ended: true,
+            };
+        };
+        used = lay_verdict(out, used, reached.number, v, map);
+        reached = step.next;
+    }
+    Block {
+        reached: reached,
+        bytes: used,
+        ended: false,
     }
 }
 
-fn list(capture: &[u8], map: &mut [u32], out: &mut [u8])
-    requires { ⌜ (length (now map) ≡ 4368) × (length (now out) ≡ 65536) ⌝ }
+// The records of as many frames as a block is sure to have room for, from a place of a capture on.
+fn lay_block(capture: &[u8], from: Point, out: &mut [u8]) -> Block
+    ensures block { λ r. ⌜ BlockPromise (now (capture .entry)) from (now (out .entry)) r (now (out .exit)) ⌝ }
+    ensures few { λ r. ⌜ r .bytes ≤ length (now (out .entry)) ⌝ }
 {
-    let mut held = nothing_held();
-    let mut number: usize = 0;
-    let mut at: usize = 0;
+    let mut map = [0; 4368];
+    let none = [255; 8];
+    let mut table = [none; 16];
+    lay_frames(capture, from, &mut map, &mut table, out)
+}
+
+// Writes the listing out, block by block.
+fn list(capture: &[u8], out: &mut [u8])
+    requires { ⌜ length (now out) ≡ 65536 ⌝ }
+{
+    let mut reached = capture::start();
     loop {
-        let h = sync::hunt(capture, at);
-        let Hunted::Found(p, n) = h else {
-            return;
-        };
-        let el = sync::element_at(capture, p, n);
-        let done = list_element(out, number, el, held, map);
-        let bytes = done.bytes;
+        let block = lay_block(capture, reached, out);
+        let bytes = block.bytes;
         io::write_all(1, &out[..bytes]);
-        held = done.held;
-        number += 1;
-        at = p + 3 + n;
+        if block.ended {
+            return;
+        }
+        reached = block.reached;
     }
 }
 
@@ -152,9 +186,8 @@ fn main() {
     let n = io::read_full(0, &mut buf);
     let mut more = [0; 1];
     let over = io::read_full(0, &mut more);
-    let mut map = [0; 4368];
     let mut out = io::large_buffer();
-    list(&buf[..n], &mut map, &mut out);
+    list(&buf[..n], &mut out);
     if over == 1 {
         io::write_all(
             2,

@@ -27,7 +27,8 @@ found-by : (w : List ℕ) (t : Bool) → (leb 250 (length w) && sameWords (words
     → (wordsOf (cond t (recordFrom w) noRecord) ≡ take 250 w) ⊎ (cond t (recordFrom w) noRecord ≡ noRecord)
 found-by w true h =
     let q = both (leb 250 (length w)) (sameWords (wordsOf (recordFrom w)) w) h in
-    inl (same-are (wordsOf (recordFrom w)) w (length-words (recordFrom w) (length-tab 16 _) (length-tab 16 _)) (leb-true 250 (length w) (q .0)) (q .1))
+    inl (same-are (wordsOf (recordFrom w)) w (length-words (recordFrom w) (length-tab 16 _) (length-tab 16 _))
+    (leb-true 250 (length w) (q .0)) (q .1))
 found-by w false h = inr refl
 
 pub found-has-the-words : FoundHasTheWords

@@ -6,7 +6,8 @@ use Prim.Native.Nat.{ℕ, zero, suc, _+_, _-_, _*_, _≤_, _<_}
 use native.Mathlib.Numerals.{add-one}
 use native.Mathlib.Omega.{arith}
 use lib.ListN.{length, getD, take, drop, replicate, length-append, length-drop, drop-of-length-le, List·getD-append}
-use lib.Seq.{drop-cons, drop-at, drop-drop, drop-append-add, getD-drop, getD-take, ext-getD, take-length, length-take-le}
+use lib.Seq.{drop-cons, drop-at, drop-drop, drop-append-add, getD-drop, getD-take, ext-getD, take-length}
+use lib.Seq.{length-take-le}
 use borrow.Author.Tests.{eqb-true, eq-eqb, le-leb, lt-leb}
 use Rattle.kernel.specs.Lists.{allOf, Stored}
 use Rattle.kernel.proofs.Lists.{length-tab, sets-front}
@@ -21,12 +22,14 @@ use Rattle.records.specs.declared.Record.{Record}
 use Rattle.records.specs.Blank.{noStream, noRecord}
 use Rattle.records.specs.Same.{formTag, formFreq, formPs}
 use Rattle.record_words.specs.Words.{freqChoice, freqNumber, streamWords, streamsWords, tailWords, wordsOf}
-use Rattle.record_words.specs.Words.{freqFrom, formFrom, streamFrom, layersFrom, streamsFrom, recordFrom, sameWords, recordIn, laidIn}
+use Rattle.record_words.specs.Words.{freqFrom, formFrom, streamFrom, layersFrom, streamsFrom, recordFrom}
+use Rattle.record_words.specs.Words.{sameWords, recordIn, laidIn}
 
 -- ---- lengths
 
 -- streams from i on: the words of stream i, and those of the streams behind it
-pub streams-turn : (ss : List Stream) (i : ℕ) → i < length ss → streamsWords (drop i ss) ≡ streamWords (getD ss i noStream) ++ streamsWords (drop (i + 1) ss)
+pub streams-turn : (ss : List Stream) (i : ℕ) → i < length ss
+    → streamsWords (drop i ss) ≡ streamWords (getD ss i noStream) ++ streamsWords (drop (i + 1) ss)
 unfolding streamsWords
 streams-turn ss i h = rw (drop-cons ss i noStream h, add-one)
 
@@ -53,7 +56,8 @@ laid-front w w′ b to p e h =
     let n : length b ≡ 250 = omega (arith, p .next) in
     p .cells ∙ rw n at (sets-front b w (omega (arith, n)))
 
-pub laid-all : (w w′ : List ℕ) (r : Record) (to : ℕ) → Stored w 0 (wordsOf r) w′ to → to ≡ 250 → 250 ≤ length w → w′ ≡ laidIn w r
+pub laid-all : (w w′ : List ℕ) (r : Record) (to : ℕ) → Stored w 0 (wordsOf r) w′ to → to ≡ 250 → 250 ≤ length w
+    → w′ ≡ laidIn w r
 unfolding laidIn
 laid-all w w′ r to p e h = rw (le-leb 250 (length w) h) (laid-front w w′ (wordsOf r) to p e h)
 
@@ -71,7 +75,8 @@ found-freq : (x : Freq) → freqFrom (freqChoice x) (freqNumber x) ≡ x
 found-freq (Index i) = refl
 found-freq (Hz h) = refl
 
-found-form : (f : Form) → formFrom (formTag f) (freqFrom (freqChoice (formFreq f)) (freqNumber (formFreq f))) (formPs f) ≡ f
+found-form : (f : Form) → formFrom (formTag f) (freqFrom (freqChoice (formFreq f)) (freqNumber (formFreq f)))
+    (formPs f) ≡ f
 found-form None = refl
 found-form (Type5 x) = ap Type5 (found-freq x)
 found-form (Type29 x) = ap Type29 (found-freq x)
@@ -85,23 +90,25 @@ found-stream s rest i = record {
     core = s .config .core;
     freq = found-freq (s .config .freq) i;
     channels = s .config .channels;
-    frame = s .config .frame;
+    flag = s .config .flag;
     depends = s .config .depends;
     extension = s .config .extension;
     form = found-form (s .config .form) i;
   };
   kind = s .kind;
   fullness = s .fullness;
-  slot = s .slot;
+  fixed = s .fixed;
 }
 
-drop-streams : (i : ℕ) (ss : List Stream) (rest : List ℕ) → i ≤ length ss → drop (14 * i) (streamsWords ss ++ rest) ≡ streamsWords (drop i ss) ++ rest
+drop-streams : (i : ℕ) (ss : List Stream) (rest : List ℕ) → i ≤ length ss
+    → drop (14 * i) (streamsWords ss ++ rest) ≡ streamsWords (drop i ss) ++ rest
 unfolding streamsWords
 drop-streams zero ss rest h = refl
 drop-streams (suc i) [] rest h = absurd (omega arith)
 drop-streams (suc i) (s ∷ ss) rest h =
     let e : 14 * suc i ≡ 14 + 14 * i = omega arith in
-    rw (e, append-assoc, drop-append-add (streamWords s) (streamsWords ss ++ rest) (14 * i)) (drop-streams i ss rest (omega arith))
+    rw (e, append-assoc, drop-append-add (streamWords s) (streamsWords ss ++ rest) (14 * i))
+    (drop-streams i ss rest (omega arith))
 
 module _ (r : Record) (rest : List ℕ) (k : length (r .layers) ≡ 16) (l : length (r .streams) ≡ 16) where
   w : List ℕ
@@ -119,7 +126,9 @@ module _ (r : Record) (rest : List ℕ) (k : length (r .layers) ≡ 16) (l : len
 
   from-246 : drop 246 w ≡ tailWords r ++ rest
   unfolding behind
-  from-246 = sym (drop-drop 224 22 w) ∙ rw from-22 (drop-at (streamsWords (r .streams)) _ 224 (omega (arith, length-streams (r .streams))))
+  from-246 =
+      sym (drop-drop 224 22 w) ∙ rw from-22
+      (drop-at (streamsWords (r .streams)) _ 224 (omega (arith, length-streams (r .streams))))
 
   found-layers : layersFrom w ≡ r .layers
   found-layers =
@@ -133,7 +142,14 @@ module _ (r : Record) (rest : List ℕ) (k : length (r .layers) ≡ 16) (l : len
       ext-getD noStream _ _ (length-tab 16 _ ∙ sym l) λ i h.
       let b : i < 16 = rw length-tab at h in
       getD-tab 16 _ i noStream b
-      ∙ rw (← drop-drop (14 * i) 22 w, from-22, drop-streams i (r .streams) (tailWords r ++ rest) (omega arith), streams-turn (r .streams) i (omega arith), append-assoc)
+      ∙ rw (
+        ← drop-drop (14 * i) 22 w,
+        from-22,
+        drop-streams i (r .streams) (tailWords r
+            ++ rest) (omega arith),
+        streams-turn (r .streams) i (omega arith),
+        append-assoc,
+      )
       (found-stream (getD (r .streams) i noStream) (streamsWords (drop (i + 1) (r .streams)) ++ (tailWords r ++ rest)))
 
   found-tail : (n : ℕ) → getD w (246 + n) 0 ≡ getD (tailWords r ++ rest) n 0
@@ -143,7 +159,7 @@ module _ (r : Record) (rest : List ℕ) (k : length (r .layers) ≡ 16) (l : len
   unfolding w
   found-record i = record {
     version = r .version;
-    variant = r .variant;
+    subversion = r .subversion;
     tara = r .tara;
     framing = r .framing;
     subframes = r .subframes;

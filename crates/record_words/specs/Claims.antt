@@ -13,7 +13,8 @@ use Rattle.record_words.specs.Promises.{LayPromise}
 
 -- a record laid is found again, whatever stands behind it; an array has 16 places
 abbrev pub LaidIsFound : Type 0
-LaidIsFound = (r : Record) (rest : List ℕ) → length (r .layers) ≡ 16 → length (r .streams) ≡ 16 → recordIn (wordsOf r ++ rest) ≡ r
+LaidIsFound =
+    (r : Record) (rest : List ℕ) → length (r .layers) ≡ 16 → length (r .streams) ≡ 16 → recordIn (wordsOf r ++ rest) ≡ r
 
 -- a record found has the words it was found in, or it is the blank one
 abbrev pub FoundHasTheWords : Type 0
@@ -25,4 +26,6 @@ BlankIsRefused = validOf noRecord ≡ false
 
 -- the promise of `lay_record` allows one answer and one content of the words
 abbrev pub LaidOnce : Type 0
-LaidOnce = (r : Record) (words words₁ words₂ : List ℕ) (x y : Bool) → LayPromise r words x words₁ → LayPromise r words y words₂ → (x ≡ y) × (words₁ ≡ words₂)
+LaidOnce =
+    (r : Record) (words words₁ words₂ : List ℕ) (x y : Bool) → LayPromise r words x words₁
+    → LayPromise r words y words₂ → (x ≡ y) × (words₁ ≡ words₂)

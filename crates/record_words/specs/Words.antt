@@ -36,17 +36,17 @@ streamWords s =
     ∷ freqChoice (s .config .freq)
     ∷ freqNumber (s .config .freq)
     ∷ s .config .channels
-    ∷ s .config .frame
+    ∷ s .config .flag
     ∷ s .config .depends
     ∷ s .config .extension
-    ∷ (formWords (s .config .form) ++ (s .kind ∷ s .fullness ∷ s .slot ∷ []))
+    ∷ (formWords (s .config .form) ++ (s .kind ∷ s .fullness ∷ s .fixed ∷ []))
 
 unfoldable pub streamsWords : List Stream → List ℕ
 streamsWords [] = []
 streamsWords (s ∷ streams) = streamWords s ++ streamsWords streams
 
 abbrev pub headWords : Record → List ℕ
-headWords r = r .version ∷ r .variant ∷ r .tara ∷ r .framing ∷ r .subframes ∷ r .programs ∷ []
+headWords r = r .version ∷ r .subversion ∷ r .tara ∷ r .framing ∷ r .subframes ∷ r .programs ∷ []
 
 abbrev pub tailWords : Record → List ℕ
 tailWords r = r .other ∷ r .bits ∷ r .checked ∷ r .crc ∷ []
@@ -62,7 +62,8 @@ freqFrom choice n = cond (eqb choice 0) (Index n) (Hz n)
 
 abbrev pub formFrom : ℕ → Freq → ℕ → Form
 formFrom tag x ps =
-    cond (eqb tag 0) None (cond (eqb tag 1) (Type5 x) (cond (eqb tag 2) (Type29 x) (cond (eqb tag 3) Flag0 (cond (eqb tag 4) (Flag1 x) (FlagPs x ps)))))
+    cond (eqb tag 0) None (cond (eqb tag 1) (Type5 x)
+    (cond (eqb tag 2) (Type29 x) (cond (eqb tag 3) Flag0 (cond (eqb tag 4) (Flag1 x) (FlagPs x ps)))))
 
 -- the stream whose words stand first
 abbrev pub streamFrom : List ℕ → Stream
@@ -71,14 +72,14 @@ streamFrom w = record {
     core = getD w 0 0;
     freq = freqFrom (getD w 1 0) (getD w 2 0);
     channels = getD w 3 0;
-    frame = getD w 4 0;
+    flag = getD w 4 0;
     depends = getD w 5 0;
     extension = getD w 6 0;
     form = formFrom (getD w 7 0) (freqFrom (getD w 8 0) (getD w 9 0)) (getD w 10 0);
   };
   kind = getD w 11 0;
   fullness = getD w 12 0;
-  slot = getD w 13 0;
+  fixed = getD w 13 0;
 }
 
 abbrev pub layersFrom : List ℕ → List ℕ
@@ -90,7 +91,7 @@ streamsFrom w = tab 16 λ i. streamFrom (drop (22 + 14 * i) w)
 abbrev pub recordFrom : List ℕ → Record
 recordFrom w = record {
   version = getD w 0 0;
-  variant = getD w 1 0;
+  subversion = getD w 1 0;
   tara = getD w 2 0;
   framing = getD w 3 0;
   subframes = getD w 4 0;
@@ -107,7 +108,8 @@ recordFrom w = record {
 unfoldable pub sameWords : List ℕ → List ℕ → Bool
 sameWords a b = allOf 250 λ i. eqb (getD a i 0) (getD b i 0)
 
--- Words are a record's where it has these words. Others, a form of number 6 or a PS flag where there is none, are nobody's and give the blank record.
+-- Words are a record's where it has these words. Others, a form of number 6 or a PS flag where there is none, are
+-- nobody's and give the blank record.
 unfoldable pub recordIn : List ℕ → Record
 recordIn w = cond (leb 250 (length w) && sameWords (wordsOf (recordFrom w)) w) (recordFrom w) noRecord
 

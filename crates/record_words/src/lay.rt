@@ -3,7 +3,8 @@ ghost use mathlib.Core.Path.{_≡_};
 ghost use Prim.Native.Nat.{_+_, _≤_};
 ghost use lib.ListN.{length};
 ghost use Rattle.kernel.specs.Lists.{Stored};
-ghost use Rattle.record_words.specs.Words.{freqChoice, freqNumber, formWords, streamWords, streamsWords, headWords, tailWords, wordsOf};
+ghost use Rattle.record_words.specs.Words.{freqChoice, freqNumber, formWords, streamWords, streamsWords};
+ghost use Rattle.record_words.specs.Words.{headWords, tailWords, wordsOf};
 ghost use Rattle.record_words.specs.Promises.{LayPromise};
 use records::Form;
 use records::Freq;
@@ -55,7 +56,7 @@ fn stream_words(s: Stream) -> [u32; 14]
         choice,
         number,
         c.channels,
-        c.frame,
+        c.flag,
         c.depends,
         c.extension,
         form[0],
@@ -64,14 +65,15 @@ fn stream_words(s: Stream) -> [u32; 14]
         form[3],
         s.kind,
         s.fullness,
-        s.slot,
+        s.fixed,
     ]
 }
 
 // Words from place `at` on; the place behind them.
 fn lay(out: &mut [u32], at: usize, src: &[u32]) -> usize
     requires { ⌜ at + length (now src) ≤ length (now out) ⌝ }
-    ensures { λ r. ⌜ (r ≡ at + length (now (src .entry))) × Stored (now (out .entry)) at (now (src .entry)) (now (out .exit)) r ⌝ }
+    ensures { λ r. ⌜ (r ≡ at + length (now (src .entry)))
+        × Stored (now (out .entry)) at (now (src .entry)) (now (out .exit)) r ⌝ }
 {
     let mut i: usize = 0;
     while i < src.len() {
@@ -116,7 +118,7 @@ fn lay_head(out: &mut [u32], r: Record) -> usize
 {
     let words = [
         r.version,
-        r.variant,
+        r.subversion,
         r.tara,
         r.framing,
         r.subframes,

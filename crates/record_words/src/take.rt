@@ -2,7 +2,8 @@
 ghost use mathlib.Core.Path.{_≡_};
 ghost use Prim.Native.Nat.{_≤_};
 ghost use lib.ListN.{length};
-ghost use Rattle.record_words.specs.Words.{freqFrom, formFrom, streamFrom, layersFrom, streamsFrom, wordsOf, recordFrom, sameWords, recordIn};
+ghost use Rattle.record_words.specs.Words.{freqFrom, formFrom, streamFrom, layersFrom, streamsFrom, wordsOf};
+ghost use Rattle.record_words.specs.Words.{recordFrom, sameWords, recordIn};
 use crate::lay_record;
 use records::Config;
 use records::Form;
@@ -46,7 +47,7 @@ fn stream_from(w: &[u32]) -> Stream
         core: w[0],
         freq: x,
         channels: w[3],
-        frame: w[4],
+        flag: w[4],
         depends: w[5],
         extension: w[6],
         form: f,
@@ -55,7 +56,7 @@ fn stream_from(w: &[u32]) -> Stream
         config: c,
         kind: w[11],
         fullness: w[12],
-        slot: w[13],
+        fixed: w[13],
     }
 }
 
@@ -95,7 +96,7 @@ fn record_from(w: &[u32]) -> Record
     let streams = streams_from(w);
     Record {
         version: w[0],
-        variant: w[1],
+        subversion: w[1],
         tara: w[2],
         framing: w[3],
         subframes: w[4],

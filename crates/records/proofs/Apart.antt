@@ -17,14 +17,15 @@ use Rattle.records.specs.declared.Stream.{Stream}
 use Rattle.records.specs.declared.Record.{Record}
 use Rattle.records.specs.Blank.{noStream}
 use Rattle.records.specs.Table.{streamsIn}
-use Rattle.records.specs.Valid.{validFreq, validForm, validConfig, validSlot, validStream, blankFreq, blankForm, blankStream, layersOk, streamsOk, headOk, tailOk, validOf}
+use Rattle.records.specs.Valid.{validFreq, validForm, validConfig, validSlot, validStream, blankFreq, blankForm}
+use Rattle.records.specs.Valid.{blankStream, layersOk, streamsOk, headOk, tailOk, validOf}
 
 -- ---- a configuration
 
 pub record ConfigOk (version : ℕ) (c : Config) : Type 0 where
   pub core : (1 ≤ c .core) × (c .core ≤ 4)
   pub channels : (1 ≤ c .channels) × (c .channels ≤ 7)
-  pub frame : c .frame ≤ 1
+  pub flag : c .flag ≤ 1
   pub depends : c .depends ≡ 0
   pub extension : c .extension ≡ 0
   pub freq : validFreq (c .freq) ≡ true
@@ -32,13 +33,14 @@ pub record ConfigOk (version : ℕ) (c : Config) : Type 0 where
 
 pub config-ok : (version : ℕ) (c : Config) → validConfig version c ≡ true → ConfigOk version c
 config-ok version c p =
-    let u = leb 1 (c .core) && leb (c .core) 4 && leb 1 (c .channels) && leb (c .channels) 7 && leb (c .frame) 1 in
+    let u = leb 1 (c .core) && leb (c .core) 4 && leb 1 (c .channels) && leb (c .channels) 7 && leb (c .flag) 1 in
     let q = five u (eqb (c .depends) 0) (eqb (c .extension) 0) (validFreq (c .freq)) (validForm version (c .form)) p in
-    let r = five (leb 1 (c .core)) (leb (c .core) 4) (leb 1 (c .channels)) (leb (c .channels) 7) (leb (c .frame) 1) (q .0) in
+    let r =
+    five (leb 1 (c .core)) (leb (c .core) 4) (leb 1 (c .channels)) (leb (c .channels) 7) (leb (c .flag) 1) (q .0) in
     record {
       core = (leb-true 1 (c .core) (r .0), leb-true (c .core) 4 (r .1));
       channels = (leb-true 1 (c .channels) (r .2), leb-true (c .channels) 7 (r .3));
-      frame = leb-true (c .frame) 1 (r .4);
+      flag = leb-true (c .flag) 1 (r .4);
       depends = eqb-true (c .depends) 0 (q .1);
       extension = eqb-true (c .extension) 0 (q .2);
       freq = q .3;
@@ -52,7 +54,7 @@ config-valid version c h =
       le-leb (c .core) 4 (h .core .1),
       le-leb 1 (c .channels) (h .channels .0),
       le-leb (c .channels) 7 (h .channels .1),
-      le-leb (c .frame) 1 (h .frame),
+      le-leb (c .flag) 1 (h .flag),
       eq-eqb (c .depends) 0 (h .depends),
       eq-eqb (c .extension) 0 (h .extension),
       h .freq,
@@ -96,32 +98,46 @@ blank-form (FlagPs x b) h = let z : false ≡ true = h in cc
 pub blank-ok : (s : Stream) → blankStream s ≡ true → s ≡ noStream
 blank-ok s p =
     let c = s .config in
-    let u = eqb (c .core) 0 && eqb (c .channels) 0 && eqb (c .frame) 0 && eqb (c .depends) 0 && eqb (c .extension) 0 in
-    let q = five (u && eqb (s .kind) 0) (eqb (s .fullness) 0) (eqb (s .slot) 0) (blankFreq (c .freq)) (blankForm (c .form)) p in
+    let u = eqb (c .core) 0 && eqb (c .channels) 0 && eqb (c .flag) 0 && eqb (c .depends) 0 && eqb (c .extension) 0 in
+    let q =
+    five (u && eqb (s .kind) 0) (eqb (s .fullness) 0) (eqb (s .fixed) 0) (blankFreq (c .freq))
+    (blankForm (c .form)) p in
     let k = both u (eqb (s .kind) 0) (q .0) in
-    let r = five (eqb (c .core) 0) (eqb (c .channels) 0) (eqb (c .frame) 0) (eqb (c .depends) 0) (eqb (c .extension) 0) (k .0) in
+    let r =
+    five (eqb (c .core) 0) (eqb (c .channels) 0) (eqb (c .flag) 0) (eqb (c .depends) 0) (eqb (c .extension) 0)
+    (k .0) in
     let e₀ : c .core ≡ 0 = eqb-true (c .core) 0 (r .0) in
     let e₁ : c .channels ≡ 0 = eqb-true (c .channels) 0 (r .1) in
-    let e₂ : c .frame ≡ 0 = eqb-true (c .frame) 0 (r .2) in
+    let e₂ : c .flag ≡ 0 = eqb-true (c .flag) 0 (r .2) in
     let e₃ : c .depends ≡ 0 = eqb-true (c .depends) 0 (r .3) in
     let e₄ : c .extension ≡ 0 = eqb-true (c .extension) 0 (r .4) in
     let e₅ : s .kind ≡ 0 = eqb-true (s .kind) 0 (k .1) in
     let e₆ : s .fullness ≡ 0 = eqb-true (s .fullness) 0 (q .1) in
-    let e₇ : s .slot ≡ 0 = eqb-true (s .slot) 0 (q .2) in
+    let e₇ : s .fixed ≡ 0 = eqb-true (s .fixed) 0 (q .2) in
     let e₈ : c .freq ≡ Index 0 = blank-freq (c .freq) (q .3) in
     let e₉ : c .form ≡ None = blank-form (c .form) (q .4) in
     λ i. record {
-      config = record { core = e₀ i; freq = e₈ i; channels = e₁ i; frame = e₂ i; depends = e₃ i; extension = e₄ i; form = e₉ i };
+      config =
+          record {
+            core = e₀ i;
+            freq = e₈ i;
+            channels = e₁ i;
+            flag = e₂ i;
+            depends = e₃ i;
+            extension = e₄ i;
+            form = e₉
+                i;
+          };
       kind = e₅ i;
       fullness = e₆ i;
-      slot = e₇ i;
+      fixed = e₇ i;
     }
 
 -- ---- a record
 
 pub record RecordOk (r : Record) : Type 0 where
   pub version : r .version ≤ 1
-  pub variant : r .variant ≡ 0
+  pub subversion : r .subversion ≡ 0
   pub tara : (eqb (r .version) 1 ≡ false) → r .tara ≡ 0
   pub framing : r .framing ≡ 1
   pub subframes : r .subframes ≤ 63
@@ -134,8 +150,10 @@ pub record RecordOk (r : Record) : Type 0 where
   pub layers : (p : ℕ) → p ≤ r .programs → getD (r .layers) p 0 ≤ 7
   pub no-layers : (p : ℕ) → r .programs < p → p < 16 → getD (r .layers) p 0 ≡ 0
   pub count : streamsIn (r .layers) (r .programs) 16 ≤ 16
-  pub streams : (i : ℕ) → i < streamsIn (r .layers) (r .programs) 16 → validStream (r .version) (getD (r .streams) i noStream) ≡ true
-  pub no-streams : (i : ℕ) → streamsIn (r .layers) (r .programs) 16 ≤ i → i < 16 → getD (r .streams) i noStream ≡ noStream
+  pub streams : (i : ℕ) → i < streamsIn (r .layers) (r .programs) 16
+      → validStream (r .version) (getD (r .streams) i noStream) ≡ true
+  pub no-streams : (i : ℕ) → streamsIn (r .layers) (r .programs) 16 ≤ i → i < 16
+      → getD (r .streams) i noStream ≡ noStream
 
 chosen-yes : (t a b : Bool) → cond t a b ≡ true → t ≡ true → a ≡ true
 chosen-yes t a b h e = rw e at h
@@ -145,36 +163,46 @@ chosen-no t a b h e = rw e at h
 
 layers-sent : (ks : List ℕ) (n : ℕ) → layersOk ks n ≡ true → n ≤ 15 → (p : ℕ) → p ≤ n → getD ks p 0 ≤ 7
 layers-sent ks n h l p k =
-    leb-true (getD ks p 0) 7 (chosen-yes (leb p n) (leb (getD ks p 0) 7) (eqb (getD ks p 0) 0) (all-of 16 _ h p (omega arith)) (le-leb p n k))
+    leb-true (getD ks p 0) 7 (chosen-yes (leb p n) (leb (getD ks p 0) 7) (eqb (getD ks p 0) 0)
+    (all-of 16 _ h p (omega arith)) (le-leb p n k))
 
 layers-not : (ks : List ℕ) (n : ℕ) → layersOk ks n ≡ true → (p : ℕ) → n < p → p < 16 → getD ks p 0 ≡ 0
 layers-not ks n h p k l =
-    eqb-true (getD ks p 0) 0 (chosen-no (leb p n) (leb (getD ks p 0) 7) (eqb (getD ks p 0) 0) (all-of 16 _ h p l) (lt-leb p n k))
+    eqb-true (getD ks p 0) 0 (chosen-no (leb p n) (leb (getD ks p 0) 7) (eqb (getD ks p 0) 0) (all-of 16 _ h p l)
+    (lt-leb p n k))
 
-streams-sent : (v n : ℕ) (ss : List Stream) → streamsOk v n ss ≡ true → n ≤ 16 → (i : ℕ) → i < n → validStream v (getD ss i noStream) ≡ true
+streams-sent : (v n : ℕ) (ss : List Stream) → streamsOk v n ss ≡ true → n ≤ 16 → (i : ℕ) → i < n
+    → validStream v (getD ss i noStream) ≡ true
 streams-sent v n ss h l i k =
-    chosen-yes (ltb i n) (validStream v (getD ss i noStream)) (blankStream (getD ss i noStream)) (all-of 16 _ h i (omega arith)) (lt-ltb i n k)
+    chosen-yes (ltb i n) (validStream v (getD ss i noStream)) (blankStream (getD ss i noStream))
+    (all-of 16 _ h i (omega arith)) (lt-ltb i n k)
 
-streams-not : (v n : ℕ) (ss : List Stream) → streamsOk v n ss ≡ true → (i : ℕ) → n ≤ i → i < 16 → getD ss i noStream ≡ noStream
+streams-not : (v n : ℕ) (ss : List Stream) → streamsOk v n ss ≡ true → (i : ℕ) → n ≤ i → i < 16
+    → getD ss i noStream ≡ noStream
 streams-not v n ss h i k l =
     blank-ok (getD ss i noStream)
-    (chosen-no (ltb i n) (validStream v (getD ss i noStream)) (blankStream (getD ss i noStream)) (all-of 16 _ h i l) (le-ltb i n k))
+    (chosen-no (ltb i n) (validStream v (getD ss i noStream)) (blankStream (getD ss i noStream)) (all-of 16 _ h i l)
+    (le-ltb i n k))
 
 pub record-ok : (r : Record) → validOf r ≡ true → RecordOk r
 record-ok r h =
     let n = streamsIn (r .layers) (r .programs) 16 in
-    let q = five (headOk r) (tailOk r) (layersOk (r .layers) (r .programs)) (leb n 16) (streamsOk (r .version) n (r .streams)) h in
+    let q =
+    five (headOk r) (tailOk r) (layersOk (r .layers) (r .programs)) (leb n 16)
+    (streamsOk (r .version) n (r .streams)) h in
     let a = eqb (r .version) 1 || eqb (r .tara) 0 in
     let b = eqb (r .other) 1 || eqb (r .bits) 0 in
     let d = eqb (r .checked) 1 || eqb (r .crc) 0 in
-    let f = both (leb (r .version) 1 && eqb (r .variant) 0 && a && eqb (r .framing) 1 && leb (r .subframes) 63) (leb (r .programs) 15) (q .0) in
-    let g = five (leb (r .version) 1) (eqb (r .variant) 0) a (eqb (r .framing) 1) (leb (r .subframes) 63) (f .0) in
+    let f =
+    both (leb (r .version) 1 && eqb (r .subversion) 0 && a && eqb (r .framing) 1
+    && leb (r .subframes) 63) (leb (r .programs) 15) (q .0) in
+    let g = five (leb (r .version) 1) (eqb (r .subversion) 0) a (eqb (r .framing) 1) (leb (r .subframes) 63) (f .0) in
     let t = five (leb (r .other) 1) b (leb (r .checked) 1) d (leb (r .crc) 255) (q .1) in
     let few : r .programs ≤ 15 = leb-true (r .programs) 15 (f .1) in
     let count : n ≤ 16 = leb-true n 16 (q .3) in
     record {
       version = leb-true (r .version) 1 (g .0);
-      variant = eqb-true (r .variant) 0 (g .1);
+      subversion = eqb-true (r .subversion) 0 (g .1);
       tara = λ e. eqb-true (r .tara) 0 (either (eqb (r .version) 1) (eqb (r .tara) 0) (g .2) e);
       framing = eqb-true (r .framing) 1 (g .3);
       subframes = leb-true (r .subframes) 63 (g .4);
@@ -204,7 +232,7 @@ head-valid : (r : Record) → RecordOk r → headOk r ≡ true
 head-valid r h =
     rw (
       le-leb (r .version) 1 (h .version),
-      eq-eqb (r .variant) 0 (h .variant),
+      eq-eqb (r .subversion) 0 (h .subversion),
       or-else (eqb (r .version) 1) (eqb (r .tara) 0) (λ e. eq-eqb (r .tara) 0 (h .tara e)),
       eq-eqb (r .framing) 1 (h .framing),
       le-leb (r .subframes) 63 (h .subframes),
@@ -228,13 +256,22 @@ layers-valid r h =
     (λ e. le-leb (getD (r .layers) p 0) 7 (h .layers p (leb-true p (r .programs) e)))
     (λ e. eq-eqb (getD (r .layers) p 0) 0 (h .no-layers p (leb-false p (r .programs) e) l))
 
-streams-valid : (r : Record) → RecordOk r → streamsOk (r .version) (streamsIn (r .layers) (r .programs) 16) (r .streams) ≡ true
+streams-valid : (r : Record) → RecordOk r
+    → streamsOk (r .version) (streamsIn (r .layers) (r .programs) 16) (r .streams) ≡ true
 streams-valid r h =
     let n = streamsIn (r .layers) (r .programs) 16 in
     all-yes 16 _ λ i l.
-    chosen-both (ltb i n) (validStream (r .version) (getD (r .streams) i noStream)) (blankStream (getD (r .streams) i noStream))
+    chosen-both (ltb i n) (validStream (r .version) (getD (r .streams) i noStream))
+    (blankStream (getD (r .streams) i noStream))
     (λ e. h .streams i (ltb-true i n e))
     (λ e. rw (h .no-streams i (ltb-false i n e) l))
 
 pub record-valid : (r : Record) → RecordOk r → validOf r ≡ true
-record-valid r h = rw (head-valid r h, tail-valid r h, layers-valid r h, le-leb (streamsIn (r .layers) (r .programs) 16) 16 (h .count)) (streams-valid r h)
+record-valid r h =
+    rw (
+      head-valid r h,
+      tail-valid r h,
+      layers-valid r h,
+      le-leb (streamsIn (r .layers) (r .programs) 16) 16
+          (h .count),
+    ) (streams-valid r h)

@@ -14,7 +14,8 @@ use Rattle.records.specs.declared.Config.{Config}
 use Rattle.records.specs.declared.Stream.{Stream}
 use Rattle.records.specs.declared.Record.{Record}
 use Rattle.records.specs.Blank.{noStream}
-use Rattle.records.specs.Same.{sameFreq, formTag, formFreq, formPs, sameForm, sameConfig, sameStream, sameLayers, sameStreams, sameRecord}
+use Rattle.records.specs.Same.{sameFreq, formTag, formFreq, formPs, sameForm, sameConfig, sameStream, sameLayers}
+use Rattle.records.specs.Same.{sameStreams, sameRecord}
 
 same-freq-eq : (a b : Freq) → sameFreq a b ≡ true → a ≡ b
 same-freq-eq (Index i) (Index j) h = ap Index (eqb-true i j h)
@@ -29,7 +30,8 @@ same-freq-refl (Hz h) = eq-eqb h h refl
 -- a form is made again of its three parts
 formOf : ℕ → Freq → ℕ → Form
 formOf n x b =
-    cond (eqb n 0) None (cond (eqb n 1) (Type5 x) (cond (eqb n 2) (Type29 x) (cond (eqb n 3) Flag0 (cond (eqb n 4) (Flag1 x) (FlagPs x b)))))
+    cond (eqb n 0) None (cond (eqb n 1) (Type5 x)
+    (cond (eqb n 2) (Type29 x) (cond (eqb n 3) Flag0 (cond (eqb n 4) (Flag1 x) (FlagPs x b)))))
 
 of-parts : (f : Form) → formOf (formTag f) (formFreq f) (formPs f) ≡ f
 unfolding formOf
@@ -49,18 +51,21 @@ same-form-eq a b h =
     cc (of-parts a, of-parts b)
 
 same-form-refl : (a : Form) → sameForm a a ≡ true
-same-form-refl a = simp (eq-eqb (formTag a) (formTag a) refl, eq-eqb (formPs a) (formPs a) refl) (same-freq-refl (formFreq a))
+same-form-refl a =
+    simp (eq-eqb (formTag a) (formTag a) refl, eq-eqb (formPs a) (formPs a) refl) (same-freq-refl (formFreq a))
 
 pub same-config-eq : (a b : Config) → sameConfig a b ≡ true → a ≡ b
 same-config-eq a b h =
-    let u = eqb (a .core) (b .core) && eqb (a .channels) (b .channels) && eqb (a .frame) (b .frame) in
-    let s = five u (eqb (a .depends) (b .depends)) (eqb (a .extension) (b .extension)) (sameFreq (a .freq) (b .freq)) (sameForm (a .form) (b .form)) h in
-    let t = three (eqb (a .core) (b .core)) (eqb (a .channels) (b .channels)) (eqb (a .frame) (b .frame)) (s .0) in
+    let u = eqb (a .core) (b .core) && eqb (a .channels) (b .channels) && eqb (a .flag) (b .flag) in
+    let s =
+    five u (eqb (a .depends) (b .depends)) (eqb (a .extension) (b .extension)) (sameFreq (a .freq) (b .freq))
+    (sameForm (a .form) (b .form)) h in
+    let t = three (eqb (a .core) (b .core)) (eqb (a .channels) (b .channels)) (eqb (a .flag) (b .flag)) (s .0) in
     λ i. record {
       core = eqb-true (a .core) (b .core) (t .0) i;
       freq = same-freq-eq (a .freq) (b .freq) (s .3) i;
       channels = eqb-true (a .channels) (b .channels) (t .1) i;
-      frame = eqb-true (a .frame) (b .frame) (t .2) i;
+      flag = eqb-true (a .flag) (b .flag) (t .2) i;
       depends = eqb-true (a .depends) (b .depends) (s .1) i;
       extension = eqb-true (a .extension) (b .extension) (s .2) i;
       form = same-form-eq (a .form) (b .form) (s .4) i;
@@ -71,40 +76,56 @@ itself n = eq-eqb n n refl
 
 pub same-config-refl : (a : Config) → sameConfig a a ≡ true
 same-config-refl a =
-    simp (itself (a .core), itself (a .channels), itself (a .frame), itself (a .depends), itself (a .extension), same-freq-refl (a .freq))
+    simp (
+      itself (a .core),
+      itself (a .channels),
+      itself (a .flag),
+      itself (a .depends),
+      itself
+          (a .extension),
+      same-freq-refl (a .freq),
+    )
     (same-form-refl (a .form))
 
 -- ---- a stream
 
 same-stream-eq : (a b : Stream) → sameStream a b ≡ true → a ≡ b
 same-stream-eq a b h =
-    let s = both (eqb (a .kind) (b .kind) && eqb (a .fullness) (b .fullness) && eqb (a .slot) (b .slot)) (sameConfig (a .config) (b .config)) h in
-    let t = three (eqb (a .kind) (b .kind)) (eqb (a .fullness) (b .fullness)) (eqb (a .slot) (b .slot)) (s .0) in
+    let s =
+    both (eqb (a .kind) (b .kind) && eqb (a .fullness) (b .fullness)
+    && eqb (a .fixed) (b .fixed)) (sameConfig (a .config) (b .config)) h in
+    let t = three (eqb (a .kind) (b .kind)) (eqb (a .fullness) (b .fullness)) (eqb (a .fixed) (b .fixed)) (s .0) in
     λ i. record {
       config = same-config-eq (a .config) (b .config) (s .1) i;
       kind = eqb-true (a .kind) (b .kind) (t .0) i;
       fullness = eqb-true (a .fullness) (b .fullness) (t .1) i;
-      slot = eqb-true (a .slot) (b .slot) (t .2) i;
+      fixed = eqb-true (a .fixed) (b .fixed) (t .2) i;
     }
 
 same-stream-refl : (a : Stream) → sameStream a a ≡ true
-same-stream-refl a = simp (itself (a .kind), itself (a .fullness), itself (a .slot)) (same-config-refl (a .config))
+same-stream-refl a = simp (itself (a .kind), itself (a .fullness), itself (a .fixed)) (same-config-refl (a .config))
 
 -- ---- a record
 
-pub same-record-eq : (a b : Record) → length (a .layers) ≡ 16 → length (b .layers) ≡ 16 → length (a .streams) ≡ 16 → length (b .streams) ≡ 16
+pub same-record-eq : (a b : Record) → length (a .layers) ≡ 16 → length (b .layers) ≡ 16 → length (a .streams) ≡ 16
+    → length (b .streams) ≡ 16
     → sameRecord a b ≡ true → a ≡ b
 same-record-eq a b ka kb sa sb h =
-    let u = eqb (a .version) (b .version) && eqb (a .variant) (b .variant) in
+    let u = eqb (a .version) (b .version) && eqb (a .subversion) (b .subversion) in
     let v = u && eqb (a .tara) (b .tara) && eqb (a .framing) (b .framing) in
-    let w = v && eqb (a .subframes) (b .subframes) && eqb (a .programs) (b .programs) && eqb (a .other) (b .other) && eqb (a .bits) (b .bits) in
-    let r = five w (eqb (a .checked) (b .checked)) (eqb (a .crc) (b .crc)) (sameLayers (a .layers) (b .layers)) (sameStreams (a .streams) (b .streams)) h in
-    let s = five v (eqb (a .subframes) (b .subframes)) (eqb (a .programs) (b .programs)) (eqb (a .other) (b .other)) (eqb (a .bits) (b .bits)) (r .0) in
+    let w = v && eqb (a .subframes) (b .subframes) && eqb (a .programs) (b .programs) && eqb (a .other) (b .other)
+    && eqb (a .bits) (b .bits) in
+    let r =
+    five w (eqb (a .checked) (b .checked)) (eqb (a .crc) (b .crc)) (sameLayers (a .layers) (b .layers))
+    (sameStreams (a .streams) (b .streams)) h in
+    let s =
+    five v (eqb (a .subframes) (b .subframes)) (eqb (a .programs) (b .programs)) (eqb (a .other) (b .other))
+    (eqb (a .bits) (b .bits)) (r .0) in
     let t = three u (eqb (a .tara) (b .tara)) (eqb (a .framing) (b .framing)) (s .0) in
-    let q = both (eqb (a .version) (b .version)) (eqb (a .variant) (b .variant)) (t .0) in
+    let q = both (eqb (a .version) (b .version)) (eqb (a .subversion) (b .subversion)) (t .0) in
     λ i. record {
       version = eqb-true (a .version) (b .version) (q .0) i;
-      variant = eqb-true (a .variant) (b .variant) (q .1) i;
+      subversion = eqb-true (a .subversion) (b .subversion) (q .1) i;
       tara = eqb-true (a .tara) (b .tara) (t .1) i;
       framing = eqb-true (a .framing) (b .framing) (t .2) i;
       subframes = eqb-true (a .subframes) (b .subframes) (s .1) i;
@@ -121,7 +142,7 @@ pub same-record-refl : (a : Record) → sameRecord a a ≡ true
 same-record-refl a =
     simp (
       itself (a .version),
-      itself (a .variant),
+      itself (a .subversion),
       itself (a .tara),
       itself (a .framing),
       itself (a .subframes),

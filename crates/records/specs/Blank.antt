@@ -7,15 +7,15 @@ use Rattle.records.specs.declared.Stream.{Stream}
 use Rattle.records.specs.declared.Record.{Record}
 
 abbrev pub noConfig : Config
-noConfig = record { core = 0; freq = Index 0; channels = 0; frame = 0; depends = 0; extension = 0; form = None }
+noConfig = record { core = 0; freq = Index 0; channels = 0; flag = 0; depends = 0; extension = 0; form = None }
 
 abbrev pub noStream : Stream
-noStream = record { config = noConfig; kind = 0; fullness = 0; slot = 0 }
+noStream = record { config = noConfig; kind = 0; fullness = 0; fixed = 0 }
 
 abbrev pub noRecord : Record
 noRecord = record {
   version = 0;
-  variant = 0;
+  subversion = 0;
   tara = 0;
   framing = 0;
   subframes = 0;

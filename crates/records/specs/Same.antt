@@ -1,4 +1,5 @@
--- When two configurations, and two whole records, are the same. A form is compared by its number, its frequency and its PS flag.
+-- When two configurations, and two whole records, are the same. A form is compared by its number, its frequency and its
+-- PS flag.
 use mathlib.Core.Bool.{Bool, false, _&&_}
 use mathlib.Core.List.{List}
 use Prim.Native.Nat.{ℕ}
@@ -49,11 +50,14 @@ sameForm a b = eqb (formTag a) (formTag b) && eqb (formPs a) (formPs b) && sameF
 
 abbrev pub sameConfig : Config → Config → Bool
 sameConfig a b =
-    eqb (a .core) (b .core) && eqb (a .channels) (b .channels) && eqb (a .frame) (b .frame) && eqb (a .depends) (b .depends)
+    eqb (a .core) (b .core) && eqb (a .channels) (b .channels) && eqb (a .flag) (b .flag)
+    && eqb (a .depends) (b .depends)
     && eqb (a .extension) (b .extension) && sameFreq (a .freq) (b .freq) && sameForm (a .form) (b .form)
 
 abbrev pub sameStream : Stream → Stream → Bool
-sameStream a b = eqb (a .kind) (b .kind) && eqb (a .fullness) (b .fullness) && eqb (a .slot) (b .slot) && sameConfig (a .config) (b .config)
+sameStream a b =
+    eqb (a .kind) (b .kind) && eqb (a .fullness) (b .fullness) && eqb (a .fixed) (b .fixed)
+    && sameConfig (a .config) (b .config)
 
 abbrev pub sameLayers : List ℕ → List ℕ → Bool
 sameLayers a b = allOf 16 λ p. eqb (getD a p 0) (getD b p 0)
@@ -63,6 +67,9 @@ sameStreams a b = allOf 16 λ i. sameStream (getD a i noStream) (getD b i noStre
 
 abbrev pub sameRecord : Record → Record → Bool
 sameRecord a b =
-    eqb (a .version) (b .version) && eqb (a .variant) (b .variant) && eqb (a .tara) (b .tara) && eqb (a .framing) (b .framing)
-    && eqb (a .subframes) (b .subframes) && eqb (a .programs) (b .programs) && eqb (a .other) (b .other) && eqb (a .bits) (b .bits)
-    && eqb (a .checked) (b .checked) && eqb (a .crc) (b .crc) && sameLayers (a .layers) (b .layers) && sameStreams (a .streams) (b .streams)
+    eqb (a .version) (b .version) && eqb (a .subversion) (b .subversion) && eqb (a .tara) (b .tara)
+    && eqb (a .framing) (b .framing)
+    && eqb (a .subframes) (b .subframes) && eqb (a .programs) (b .programs) && eqb (a .other) (b .other)
+    && eqb (a .bits) (b .bits)
+    && eqb (a .checked) (b .checked) && eqb (a .crc) (b .crc) && sameLayers (a .layers) (b .layers)
+    && sameStreams (a .streams) (b .streams)

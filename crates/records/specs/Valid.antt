@@ -32,15 +32,17 @@ validForm version (FlagPs x b) = eqb version 1 && validFreq x && leb b 1
 -- 8, 9, 11 and 12
 abbrev pub validConfig : ℕ → Config → Bool
 validConfig version c =
-    leb 1 (c .core) && leb (c .core) 4 && leb 1 (c .channels) && leb (c .channels) 7 && leb (c .frame) 1 && eqb (c .depends) 0 && eqb (c .extension) 0
+    leb 1 (c .core) && leb (c .core) 4 && leb 1 (c .channels) && leb (c .channels) 7 && leb (c .flag) 1
+    && eqb (c .depends) 0 && eqb (c .extension) 0
     && validFreq (c .freq) && validForm version (c .form)
 
 -- 13: type 0 with latmBufferFullness, or type 1 with frameLength
 abbrev pub validSlot : ℕ → ℕ → ℕ → Bool
-validSlot kind fullness slot = (eqb kind 0 && leb fullness 255 && eqb slot 0) || (eqb kind 1 && eqb fullness 0 && leb slot 511)
+validSlot kind fullness slot =
+    (eqb kind 0 && leb fullness 255 && eqb slot 0) || (eqb kind 1 && eqb fullness 0 && leb slot 511)
 
 abbrev pub validStream : ℕ → Stream → Bool
-validStream version s = validConfig version (s .config) && validSlot (s .kind) (s .fullness) (s .slot)
+validStream version s = validConfig version (s .config) && validSlot (s .kind) (s .fullness) (s .fixed)
 
 abbrev pub blankFreq : Freq → Bool
 blankFreq (Index i) = eqb i 0
@@ -56,8 +58,10 @@ blankForm (FlagPs x b) = false
 
 abbrev pub blankStream : Stream → Bool
 blankStream s =
-    eqb (s .config .core) 0 && eqb (s .config .channels) 0 && eqb (s .config .frame) 0 && eqb (s .config .depends) 0 && eqb (s .config .extension) 0
-    && eqb (s .kind) 0 && eqb (s .fullness) 0 && eqb (s .slot) 0 && blankFreq (s .config .freq) && blankForm (s .config .form)
+    eqb (s .config .core) 0 && eqb (s .config .channels) 0 && eqb (s .config .flag) 0 && eqb (s .config .depends) 0
+    && eqb (s .config .extension) 0
+    && eqb (s .kind) 0 && eqb (s .fullness) 0 && eqb (s .fixed) 0 && blankFreq (s .config .freq)
+    && blankForm (s .config .form)
 
 -- of numProgram n: a numLayer of three bits for each program, 0 past them
 abbrev pub layerOk : ℕ → ℕ → ℕ → Bool
@@ -76,11 +80,13 @@ streamsOk version k streams = allOf 16 λ i. streamOk version k i (getD streams 
 -- 5 and 6
 abbrev pub headOk : Record → Bool
 headOk r =
-    leb (r .version) 1 && eqb (r .variant) 0 && (eqb (r .version) 1 || eqb (r .tara) 0) && eqb (r .framing) 1 && leb (r .subframes) 63 && leb (r .programs) 15
+    leb (r .version) 1 && eqb (r .subversion) 0 && (eqb (r .version) 1 || eqb (r .tara) 0) && eqb (r .framing) 1
+    && leb (r .subframes) 63 && leb (r .programs) 15
 
 abbrev pub tailOk : Record → Bool
 tailOk r =
-    leb (r .other) 1 && (eqb (r .other) 1 || eqb (r .bits) 0) && leb (r .checked) 1 && (eqb (r .checked) 1 || eqb (r .crc) 0) && leb (r .crc) 255
+    leb (r .other) 1 && (eqb (r .other) 1 || eqb (r .bits) 0) && leb (r .checked) 1
+    && (eqb (r .checked) 1 || eqb (r .crc) 0) && leb (r .crc) 255
 
 -- 7: at most 16 streams
 abbrev pub validOf : Record → Bool

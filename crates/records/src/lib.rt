@@ -18,7 +18,8 @@ pub enum Freq {
     Hz(u32),
 }
 
-// How SBR and PS are signalled: not at all; by type 5 or 29 in front; after 0x2B7 with flag 0, with flag 1, or with flag 1 and a PS flag.
+// How SBR and PS are signalled: not at all; by type 5 or 29 in front; after 0x2B7 with flag 0, with flag 1, or with
+// flag 1 and a PS flag.
 pub enum Form {
     None,
     Type5(Freq),
@@ -33,7 +34,7 @@ pub struct Config {
     pub core: u32, // audioObjectType 1 to 4, alone or under type 5 or 29
     pub freq: Freq, // samplingFrequency
     pub channels: u32, // channelConfiguration
-    pub frame: u32, // frameLengthFlag
+    pub flag: u32, // frameLengthFlag
     pub depends: u32, // dependsOnCoreCoder
     pub extension: u32, // extensionFlag
     pub form: Form,
@@ -43,12 +44,12 @@ pub struct Stream {
     pub config: Config,
     pub kind: u32, // frameLengthType
     pub fullness: u32, // latmBufferFullness, of type 0
-    pub slot: u32, // frameLength, of type 1
+    pub fixed: u32, // frameLength, of type 1
 }
 
 pub struct Record {
     pub version: u32, // audioMuxVersion
-    pub variant: u32, // audioMuxVersionA
+    pub subversion: u32, // audioMuxVersionA
     pub tara: u32, // taraBufferFullness
     pub framing: u32, // allStreamsSameTimeFraming
     pub subframes: u32, // numSubFrames
@@ -65,7 +66,7 @@ const NO_CONFIG: Config = Config {
     core: 0,
     freq: Freq::Index(0),
     channels: 0,
-    frame: 0,
+    flag: 0,
     depends: 0,
     extension: 0,
     form: Form::None,
@@ -78,7 +79,7 @@ pub fn no_stream() -> Stream
         config: NO_CONFIG,
         kind: 0,
         fullness: 0,
-        slot: 0,
+        fixed: 0,
     }
 }
 
@@ -88,7 +89,7 @@ pub fn no_record() -> Record
     let blank = no_stream();
     Record {
         version: 0,
-        variant: 0,
+        subversion: 0,
         tara: 0,
         framing: 0,
         subframes: 0,

@@ -1,6 +1,7 @@
 // What 16 refuses, from the leaves up.
 ghost use mathlib.Core.Path.{_≡_};
-ghost use Rattle.records.specs.Valid.{validFreq, validForm, validConfig, validSlot, validStream, blankFreq, blankForm, blankStream};
+ghost use Rattle.records.specs.Valid.{validFreq, validForm, validConfig, validSlot, validStream, blankFreq};
+ghost use Rattle.records.specs.Valid.{blankForm, blankStream};
 ghost use Rattle.records.specs.Valid.{streamOk, streamsOk, layerOk, layersOk, headOk, tailOk, validOf};
 use crate::Config;
 use crate::Form;
@@ -38,7 +39,7 @@ fn valid_config(version: u32, c: Config) -> bool
         & (c.core <= 4)
         & (1 <= c.channels)
         & (c.channels <= 7)
-        & (c.frame <= 1)
+        & (c.flag <= 1)
         & (c.depends == 0)
         & (c.extension == 0);
     let x = c.freq;
@@ -56,7 +57,7 @@ fn valid_slot(kind: u32, fullness: u32, slot: u32) -> bool
 fn valid_stream(version: u32, s: Stream) -> bool
     ensures { λ r. ⌜ r ≡ validStream version s ⌝ }
 {
-    valid_config(version, s.config) & valid_slot(s.kind, s.fullness, s.slot)
+    valid_config(version, s.config) & valid_slot(s.kind, s.fullness, s.fixed)
 }
 
 fn blank_freq(f: Freq) -> bool
@@ -87,12 +88,12 @@ fn blank_stream(s: Stream) -> bool
     let c = s.config;
     let numbers = (c.core == 0)
         & (c.channels == 0)
-        & (c.frame == 0)
+        & (c.flag == 0)
         & (c.depends == 0)
         & (c.extension == 0)
         & (s.kind == 0)
         & (s.fullness == 0)
-        & (s.slot == 0);
+        & (s.fixed == 0);
     let x = c.freq;
     let f = c.form;
     numbers & blank_freq(x) & blank_form(f)
@@ -146,7 +147,7 @@ fn head_ok(r: Record) -> bool
     ensures { λ b. ⌜ b ≡ headOk r ⌝ }
 {
     (r.version <= 1)
-        & (r.variant == 0)
+        & (r.subversion == 0)
         & ((r.version == 1) | (r.tara == 0))
         & (r.framing == 1)
         & (r.subframes <= 63)

@@ -1,6 +1,7 @@
 // Equality of configurations and of whole records.
 ghost use mathlib.Core.Path.{_≡_};
-ghost use Rattle.records.specs.Same.{sameFreq, formTag, formFreq, formPs, sameForm, sameConfig, sameStream, sameLayers, sameStreams, sameRecord};
+ghost use Rattle.records.specs.Same.{sameFreq, formTag, formFreq, formPs, sameForm, sameConfig, sameStream};
+ghost use Rattle.records.specs.Same.{sameLayers, sameStreams, sameRecord};
 use crate::Config;
 use crate::Form;
 use crate::Freq;
@@ -74,7 +75,7 @@ pub fn same_config(a: Config, b: Config) -> bool
 {
     let numbers = (a.core == b.core)
         & (a.channels == b.channels)
-        & (a.frame == b.frame)
+        & (a.flag == b.flag)
         & (a.depends == b.depends)
         & (a.extension == b.extension);
     let x = a.freq;
@@ -89,7 +90,7 @@ fn same_stream(a: Stream, b: Stream) -> bool
 {
     (a.kind == b.kind)
         & (a.fullness == b.fullness)
-        & (a.slot == b.slot)
+        & (a.fixed == b.fixed)
         & same_config(a.config, b.config)
 }
 
@@ -124,7 +125,7 @@ pub fn same_record(a: Record, b: Record) -> bool
     ensures { λ r. ⌜ r ≡ sameRecord a b ⌝ }
 {
     let numbers = (a.version == b.version)
-        & (a.variant == b.variant)
+        & (a.subversion == b.subversion)
         & (a.tara == b.tara)
         & (a.framing == b.framing)
         & (a.subframes == b.subframes)

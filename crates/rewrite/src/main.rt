@@ -2,95 +2,55 @@
 ghost use mathlib.Core.Path.{_≡_};
 ghost use Prim.Native.Nat.{_+_, _≤_, _<_};
 ghost use lib.ListN.{length};
-use element::Held;
+use capture::Found;
+use capture::advance;
 use element::Verdict;
-use element::nothing_held;
-use kernel::Cursor;
-use kernel::Fetched;
-use kernel::Window;
-use kernel::fetch;
-use kernel::store;
+use items::Item;
+use items::copy_item;
+use items::item_at;
 use records::Record;
 use sync::Framed;
-use sync::Hunted;
+use sync::element_at;
 use writer::Written;
 
-// Up to 8 bits of an element; 0 where they are not there.
-fn bits_at(el: &[u8], at: usize, width: usize) -> u8
-    requires { ⌜ (1 ≤ width) × (width ≤ 8) ⌝ }
+// An item of this kind behind those before it; what has no room is left out.
+fn copy_if(el: &[u8], it: Item, kind: u32, out: &mut [u8], at: usize) -> usize
+    requires { ⌜ (at ≤ 20000) × (length (now out) ≡ 8192) ⌝ }
+    ensures { λ r. ⌜ r ≤ 20000 ⌝ }
 {
-    if el.len() > 8191 {
-        return 0;
+    if it.kind != kind {
+        return at;
     }
-    if 8 * el.len() < at {
-        return 0;
+    if out.len() <= at {
+        return at;
     }
-    let f = fetch(el, Window::Open, Cursor { at: at, read: 0 }, width);
-    let Fetched::Value(v, _) = f else {
-        return 0;
-    };
-    (v % 256) as u8
-}
-
-// The bits of an item as bytes, packed from the top bit; the byte behind them.
-fn copy_item(el: &[u8], first: usize, width: usize, out: &mut [u8], at: usize) -> usize
-    requires { ⌜ (first ≤ 4294967295) × (width ≤ 65528) × (at ≤ 10000000) ⌝ }
-    ensures { λ r. ⌜ r ≤ at + 8191 ⌝ }
-{
-    let whole = width / 8;
-    let rest = width % 8;
-    let mut i: usize = 0;
-    while i < whole {
-        store(out, at + i, bits_at(el, first + 8 * i, 8));
-        i += 1;
-    }
-    if rest == 0 {
-        return at + whole;
-    }
-    store(
-        out,
-        at + whole,
-        bits_at(el, first + 8 * whole, rest) << (8 - rest),
-    );
-    at + whole + 1
+    copy_item(el, it, out, at)
 }
 
 // The items of one kind; the bytes that they have.
 fn copy_kind(el: &[u8], map: &[u32], items: usize, kind: u32, out: &mut [u8]) -> usize
-    requires { ⌜ (length (now map) ≡ 4368) × (items ≤ 1092) ⌝ }
-    ensures { λ r. ⌜ r ≤ 8944572 ⌝ }
+    requires { ⌜ length (now out) ≡ 8192 ⌝ }
+    ensures { λ r. ⌜ r ≤ 20000 ⌝ }
 {
     let mut at: usize = 0;
     let mut i: usize = 0;
     while i < items {
-        at = copy_if(el, map, 4 * i, kind, out, at);
+        let it = item_at(map, i);
+        at = copy_if(el, it, kind, out, at);
         i += 1;
     }
     at
 }
 
-fn cell(map: &[u32], i: usize) -> usize
-    requires { ⌜ i ≤ 4367 ⌝ }
-    ensures { λ r. ⌜ r ≤ 4294967295 ⌝ }
+fn slot_if(it: Item, lengths: &mut [u32], n: usize) -> usize
+    requires { ⌜ (n < length (now lengths)) × (length (now lengths) ≡ 1092) ⌝ }
+    ensures { λ r. ⌜ r ≤ n + 1 ⌝ }
 {
-    if i < map.len() {
-        return map[i] as usize;
+    if it.kind != 4 {
+        return n;
     }
-    0
-}
-
-fn copy_if(el: &[u8], map: &[u32], item: usize, kind: u32, out: &mut [u8], at: usize) -> usize
-    requires { ⌜ (item ≤ 4364) × (at ≤ 10000000) ⌝ }
-    ensures { λ r. ⌜ r ≤ at + 8191 ⌝ }
-{
-    if cell(map, item) != kind as usize {
-        return at;
-    }
-    let width = cell(map, item + 3);
-    if width > 65528 {
-        return at;
-    }
-    copy_item(el, cell(map, item + 2), width, out, at)
+    lengths[n] = it.width / 8;
+    n + 1
 }
 
 // The slots' lengths in bytes; how many.
@@ -101,21 +61,11 @@ fn slots_of(map: &[u32], items: usize, lengths: &mut [u32]) -> usize
     let mut n: usize = 0;
     let mut i: usize = 0;
     while i < items {
-        n = slot_if(map, 4 * i, lengths, n);
+        let it = item_at(map, i);
+        n = slot_if(it, lengths, n);
         i += 1;
     }
     n
-}
-
-fn slot_if(map: &[u32], item: usize, lengths: &mut [u32], n: usize) -> usize
-    requires { ⌜ (item ≤ 4364) × (n < length (now lengths)) × (length (now lengths) ≡ 1092) ⌝ }
-    ensures { λ r. ⌜ r ≤ n + 1 ⌝ }
-{
-    if cell(map, item) != 4 {
-        return n;
-    }
-    lengths[n] = (cell(map, item + 3) / 8) as u32;
-    n + 1
 }
 
 // Buffers are lent: payload and other data of up to 8,191 bytes, an element, and its frame.
@@ -167,7 +117,8 @@ fn take_out(
     out: &mut [u8],
     frame: &mut [u8],
 )
-    requires { ⌜ (length (now map) ≡ 4368) × (length (now lengths) ≡ 1092) × (length (now payload) ≡ 8192) × (length (now other) ≡ 8192) × (length (now out) ≡ 8192) × (length (now frame) ≡ 8200) ⌝ }
+    requires { ⌜ (length (now lengths) ≡ 1092) × (length (now payload) ≡ 8192) × (length (now other) ≡ 8192)
+        × (length (now out) ≡ 8192) × (length (now frame) ≡ 8200) ⌝ }
 {
     let k = least(items, 1092);
     let n = slots_of(map, k, lengths);
@@ -184,26 +135,24 @@ fn take_out(
     );
 }
 
-// One element, and what is then held.
+// One element that was read; nothing of one that was refused.
 fn one(
     el: &[u8],
-    held: Held,
-    map: &mut [u32],
+    v: Verdict,
+    r: Record,
+    map: &[u32],
     lengths: &mut [u32],
     payload: &mut [u8],
     other: &mut [u8],
     out: &mut [u8],
     frame: &mut [u8],
-) -> Held
-    requires { ⌜ (length (now map) ≡ 4368) × (length (now lengths) ≡ 1092) × (length (now payload) ≡ 8192) × (length (now other) ≡ 8192) × (length (now out) ≡ 8192) × (length (now frame) ≡ 8200) ⌝ }
+)
+    requires { ⌜ (length (now lengths) ≡ 1092) × (length (now payload) ≡ 8192) × (length (now other) ≡ 8192)
+        × (length (now out) ≡ 8192) × (length (now frame) ≡ 8200) ⌝ }
 {
-    let reply = element::read(el, held, map);
-    let v = reply.verdict;
-    let kept = reply.held;
     let Verdict::Accepted(items, _, sent) = v else {
-        return kept;
+        return;
     };
-    let r = kept.config;
     take_out(
         el,
         map,
@@ -216,30 +165,33 @@ fn one(
         out,
         frame,
     );
-    kept
 }
 
 fn all(
     capture: &[u8],
     map: &mut [u32],
+    table: &mut [[u8; 8]; 16],
     lengths: &mut [u32],
     payload: &mut [u8],
     other: &mut [u8],
     out: &mut [u8],
     frame: &mut [u8],
 )
-    requires { ⌜ (length (now map) ≡ 4368) × (length (now lengths) ≡ 1092) × (length (now payload) ≡ 8192) × (length (now other) ≡ 8192) × (length (now out) ≡ 8192) × (length (now frame) ≡ 8200) ⌝ }
+    requires { ⌜ (length (now map) ≡ 4368) × (length (now lengths) ≡ 1092) × (length (now payload) ≡ 8192)
+        × (length (now other) ≡ 8192) × (length (now out) ≡ 8192) × (length (now frame) ≡ 8200) ⌝ }
 {
-    let mut held = nothing_held();
-    let mut at: usize = 0;
+    let mut reached = capture::start();
     loop {
-        let h = sync::hunt(capture, at);
-        let Hunted::Found(p, n) = h else {
+        let step = advance(capture, reached, map, table);
+        let found = step.found;
+        let Found::Frame(p, n, v) = found else {
             return;
         };
-        let el = sync::element_at(capture, p, n);
-        held = one(el, held, map, lengths, payload, other, out, frame);
-        at = p + 3 + n;
+        let next = step.next;
+        let held = next.held;
+        let el = element_at(capture, p, n);
+        one(el, v, held.config, map, lengths, payload, other, out, frame);
+        reached = next;
     }
 }
 
@@ -249,6 +201,8 @@ fn main() {
     let mut more = [0; 1];
     let over = io::read_full(0, &mut more);
     let mut map = [0; 4368];
+    let none = [255; 8];
+    let mut table = [none; 16];
     let mut lengths = [0; 1092];
     let mut payload = [0; 8192];
     let mut other = [0; 8192];
@@ -257,6 +211,7 @@ fn main() {
     all(
         &buf[..n],
         &mut map,
+        &mut table,
         &mut lengths,
         &mut payload,
         &mut other,

@@ -26,11 +26,14 @@ abbrev Carries : ℕ → Type 0
 Carries hz = (1 ≤ hz) × (hz < 16777216)
 
 tested : (n : ℕ) → (leb 1 n && leb n 16777215) ≡ true → Carries n
-tested n h = let q = both (leb 1 n) (leb n 16777215) h in (leb-true 1 n (q .0), omega (arith, leb-true n 16777215 (q .1)))
+tested n h =
+    let q = both (leb 1 n) (leb n 16777215) h in (leb-true 1 n (q .0), omega (arith, leb-true n 16777215 (q .1)))
 
 freq-carried : (x : Freq) → validFreq x ≡ true → Carries (hzOf x)
 unfolding allOf
-freq-carried (Index i) h = tested (hzAt i) (all-of 13 (λ (j : ℕ). leb 1 (hzAt j) && leb (hzAt j) 16777215) refl i (omega (arith, leb-true i 12 h)))
+freq-carried (Index i) h =
+    tested (hzAt i) (all-of 13 (λ (j : ℕ). leb 1 (hzAt j)
+    && leb (hzAt j) 16777215) refl i (omega (arith, leb-true i 12 h)))
 freq-carried (Hz n) h = tested n h
 
 output-carried : (version core : ℕ) (m : Form) → validForm version m ≡ true → Carries core → Carries (outputOf m core)
@@ -50,7 +53,9 @@ channels-carried c lo hi = go (leb c 6) refl
 
 stream-carried : (version p l : ℕ) (s : Stream) → p < 16 → l < 8 → validStream version s ≡ true → Carried (rowOf p l s)
 stream-carried version p l s hp hl h =
-    let c = config-ok version (s .config) (both (validConfig version (s .config)) (validSlot (s .kind) (s .fullness) (s .slot)) h .0) in
+    let c =
+    config-ok version (s .config)
+    (both (validConfig version (s .config)) (validSlot (s .kind) (s .fullness) (s .fixed)) h .0) in
     let f = freq-carried (s .config .freq) (c .freq) in
     record {
       program = hp;
@@ -67,5 +72,6 @@ row-carried r p l v hp hl =
     let n = streams-next (r .layers) (r .programs) p hp in
     let u = streams-upto (r .layers) (r .programs) (p + 1) 16 (omega (arith, h .programs)) in
     let i = streamsIn (r .layers) (r .programs) p + l in
-    stream-carried (r .version) p l (getD (r .streams) i noStream) (omega (arith, h .programs)) (omega (arith, h .layers p hp))
+    stream-carried (r .version) p l (getD (r .streams) i noStream) (omega (arith, h .programs))
+    (omega (arith, h .layers p hp))
     (h .streams i (omega (arith, n, u)))

@@ -52,10 +52,12 @@ module _ (r : Record) (p l : ℕ) where
       cell-at (r .layers) (r .programs) p l 0 hp hl
       ∙ not-both (ltb l share) (ltb (first + l) 16) (λ c d. h (hp, hl, ltb-true l share c, ltb-true (first + l) 16 d))
 
-  pub row-there : IsThere r p l → rowIn r (tableOf (r .layers) (r .programs)) p l ≡ Is (rowOf p l (getD (r .streams) (first + l) noStream))
+  pub row-there : IsThere r p l
+      → rowIn r (tableOf (r .layers) (r .programs)) p l ≡ Is (rowOf p l (getD (r .streams) (first + l) noStream))
   row-there h = rw (lt-ltb p 16 (h .0), lt-ltb l 8 (h .1), cell-of h, lt-ltb (first + l) 16 (h .3))
 
-  absent : ¬ IsThere r p l → (a b : Bool) → ltb p 16 ≡ a → ltb l 8 ≡ b → cond a (cond b (numbered r p l (cellIn r p l)) Absent) Absent ≡ Absent
+  absent : ¬ IsThere r p l → (a b : Bool) → ltb p 16 ≡ a → ltb l 8 ≡ b
+      → cond a (cond b (numbered r p l (cellIn r p l)) Absent) Absent ≡ Absent
   absent h false b e q = refl
   absent h true false e q = refl
   absent h true true e q = rw (cell-other (ltb-true p 16 e) (ltb-true l 8 q) h)

@@ -14,7 +14,8 @@ use Rattle.row.specs.Row.{rowOf, rowIn}
 
 -- program p has a layer l, and its stream is one of 16
 abbrev pub IsThere : Record → ℕ → ℕ → Type 0
-IsThere r p l = (p < 16) × (l < 8) × (l < shareOf (r .layers) (r .programs) p) × (streamsIn (r .layers) (r .programs) p + l < 16)
+IsThere r p l =
+    (p < 16) × (l < 8) × (l < shareOf (r .layers) (r .programs) p) × (streamsIn (r .layers) (r .programs) p + l < 16)
 
 -- the cell of program p and layer l in the record's own table
 abbrev pub cellIn : Record → ℕ → ℕ → ℕ
@@ -31,7 +32,8 @@ CellsOther = (r : Record) (p l : ℕ) → p < 16 → l < 8 → ¬ IsThere r p l 
 -- with the record's own table, layer l of program p has the row of the stream that is l after the program's first,
 abbrev pub RowsFound : Type 0
 RowsFound = (r : Record) (p l : ℕ) → IsThere r p l
-    → rowIn r (tableOf (r .layers) (r .programs)) p l ≡ Is (rowOf p l (getD (r .streams) (streamsIn (r .layers) (r .programs) p + l) noStream))
+    → rowIn r (tableOf (r .layers) (r .programs)) p l
+    ≡ Is (rowOf p l (getD (r .streams) (streamsIn (r .layers) (r .programs) p + l) noStream))
 
 -- and every other pair has none
 abbrev pub RowsAbsent : Type 0
@@ -39,7 +41,8 @@ RowsAbsent = (r : Record) (p l : ℕ) → ¬ IsThere r p l → rowIn r (tableOf 
 
 -- in a record that 16 does not refuse each layer of each program has one
 abbrev pub EachLayerIsThere : Type 0
-EachLayerIsThere = (r : Record) (p l : ℕ) → validOf r ≡ true → p ≤ r .programs → l ≤ getD (r .layers) p 0 → IsThere r p l
+EachLayerIsThere =
+    (r : Record) (p l : ℕ) → validOf r ≡ true → p ≤ r .programs → l ≤ getD (r .layers) p 0 → IsThere r p l
 
 -- a program of 16, a layer of 8, object type 1 to 4, frequencies of 1 to 2^24 - 1 Hz, and 1 to 8 channels
 pub record Carried (x : Row) : Type 0 where

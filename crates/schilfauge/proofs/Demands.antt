@@ -16,7 +16,9 @@ use Rattle.element.proofs.Demands as element
 use Rattle.schilfauge.specs.Lent.{heldIn, answerIn, heldAfter, readNumber, answerWords}
 use Rattle.schilfauge.proofs.Numbers.{held-stays}
 use Rattle.schilfauge.proofs.Theorems.{next-finds-held}
-use Rattle.schilfauge.specs.Demands.{leftBy, PromisedIsLeft, ShownTile, ShownOnce, ShownCount, SameLeft, SameLeftRefused, RefusedLeft, RefusedTold, AcceptedTold, AcceptedFits, NextIsNot4}
+use Rattle.schilfauge.specs.Demands.{leftBy, PromisedIsLeft, ShownTile, ShownOnce, ShownCount, SameLeft}
+use Rattle.schilfauge.specs.Demands.{SameLeftRefused, RefusedLeft, RefusedTold, AcceptedTold, AcceptedFits}
+use Rattle.schilfauge.specs.Demands.{NextIsNot4}
 
 record Accepts (v : Verdict) : Type 0 where
   items : ℕ
@@ -43,7 +45,8 @@ is-sent true e = refl
 is-sent false e = absurd (omega arith)
 
 pub promised-is-left : PromisedIsLeft
-promised-is-left s held map r held′ map′ told′ p = λ i. record { number = p .0 i; held = p .1 .0 i; map = p .1 .1 .0 i; told = p .1 .1 .1 i }
+promised-is-left s held map r held′ map′ told′ p =
+    λ i. record { number = p .0 i; held = p .1 .0 i; map = p .1 .1 .0 i; told = p .1 .1 .1 i }
 
 module _ (s held map : List ℕ) where
   abbrev verdict : Verdict
@@ -72,18 +75,24 @@ module _ (s held map : List ℕ) where
 
   pub same-left : SameLeft s held map
   same-left e t long same =
-      let a = accepted e in ap (leftBy held map) (element.same-answer s (heldIn held) map [] _ _ _ (a .is) t long (rw (a .is) at same))
+      let a = accepted e in
+      ap (leftBy held map) (element.same-answer s (heldIn held) map [] _ _ _ (a .is) t long (rw (a .is) at same))
 
   pub same-left-refused : SameLeftRefused s held map
-  same-left-refused r its e t long same = ap (leftBy held map) (same-when-refused s (heldIn held) (length map) r its e t long same ∙ sym e)
+  same-left-refused r its e t long same =
+      ap (leftBy held map) (same-when-refused s (heldIn held) (length map) r its e t long same ∙ sym e)
 
   pub next-is-not-4 : NextIsNot4 s held map
   next-is-not-4 e b t more four =
       let a = accepted e in
-      let sent : a .sent ≡ true = is-sent (a .sent) (sym (ap (λ (v : Verdict). getD (answerWords v) 3 0) (a .is)) ∙ b) in
-      let r = refuses (verdictOf (answerIn t (heldAfter held (answerIn s held (length map))) (length more))) (λ z. omega arith) in
+      let sent : a .sent ≡ true = is-sent (a .sent) (sym (ap (λ (v : Verdict). getD (answerWords v) 3 0) (a .is))
+      ∙ b) in
+      let r =
+      refuses (verdictOf (answerIn t (heldAfter held (answerIn s held (length map))) (length more)))
+      (λ z. omega arith) in
       let found = ap (λ (h : Held). verdictOf (answer t h (length more))) (sym (next-finds-held s held (length map))) in
-      element.next-left-is-not-4 s (heldIn held) map [] _ _ (a .is ∙ ap (Accepted (a .items) (a .fields)) sent) t more [] (r .refusal)
+      element.next-left-is-not-4 s (heldIn held) map [] _ _ (a .is
+      ∙ ap (Accepted (a .items) (a .fields)) sent) t more [] (r .refusal)
       (found ∙ r .is) (sym (ap readNumber (r .is)) ∙ four)
 
   pub refused-left : RefusedLeft s held map

@@ -23,7 +23,8 @@ use Rattle.writer.specs.declared.Written.{Written}
 use Rattle.writer.specs.declared.Written.the-variants as written
 use Rattle.writer.specs.Written.{Sent, sizeOf}
 use Rattle.writer.specs.Write.{fits, writtenOf, outAfter}
-use Rattle.schilfauge.specs.Lent.{huntNumber, foundAfter, heldAfter, readNumber, writeNumber, writtenAfter, frameNumber, framedAfter}
+use Rattle.schilfauge.specs.Lent.{huntNumber, foundAfter, heldAfter, readNumber, writeNumber, writtenAfter}
+use Rattle.schilfauge.specs.Lent.{frameNumber, framedAfter}
 
 -- ---- of a refusal
 
@@ -47,7 +48,8 @@ pub written-16 : (w : Sent) (room : ℕ) → Is16To19 (writtenOf w room)
 written-16 w room =
     chosen Is16To19 (validOf (w .config)) _ _
     (chosen Is16To19 (fits w) _ _
-    (chosen Is16To19 (ltb 8191 (sizeOf w)) _ _ (omega arith, omega arith) (chosen Is16To19 (ltb room (sizeOf w)) _ _ (omega arith, omega arith) tt))
+    (chosen Is16To19 (ltb 8191 (sizeOf w)) _ _ (omega arith, omega arith)
+    (chosen Is16To19 (ltb room (sizeOf w)) _ _ (omega arith, omega arith) tt))
     (omega arith, omega arith))
     (omega arith, omega arith)
 
@@ -57,7 +59,8 @@ Is2Or19 (framed.Refused x) = (x .number ≡ 2) ⊎ (x .number ≡ 19)
 
 pub framed-2 : (s : List ℕ) (room : ℕ) → Is2Or19 (framedOf s room)
 framed-2 s room =
-    chosen Is2Or19 (eqb (length s) 0 || ltb 8191 (length s)) _ _ (inl refl) (chosen Is2Or19 (ltb room (3 + length s)) _ _ (inr refl) tt)
+    chosen Is2Or19 (eqb (length s) 0
+    || ltb 8191 (length s)) _ _ (inl refl) (chosen Is2Or19 (ltb room (3 + length s)) _ _ (inr refl) tt)
 
 -- ---- where it is not 0, all is as it stood
 
@@ -65,7 +68,8 @@ pub found-stays : (found : List ℕ) (h : Hunted) → ¬ (huntNumber h ≡ 0) �
 found-stays found (hunted.Found place size) n = absurd (n refl)
 found-stays found (hunted.Refused x) n = refl
 
-pub held-stays : (w map : List ℕ) (z : Answer Applied) → ¬ (readNumber (verdictOf z) ≡ 0) → (heldAfter w z ≡ w) × (mapAfter map z ≡ map)
+pub held-stays : (w map : List ℕ) (z : Answer Applied) → ¬ (readNumber (verdictOf z) ≡ 0)
+    → (heldAfter w z ≡ w) × (mapAfter map z ≡ map)
 held-stays w map (accepted a items k) n = absurd (n refl)
 held-stays w map (rejected r items) n = (refl, refl)
 
@@ -73,11 +77,13 @@ pub row-stays : (t : Bool) (row row′ : List ℤ) → ¬ (_≡_ {A = ℕ} (cond
 row-stays true row row′ n = absurd (n refl)
 row-stays false row row′ n = refl
 
-pub written-stays : (w : Sent) (out : List ℕ) (size : ℕ) (z : Written) → ¬ (writeNumber z ≡ 0) → (outAfter w out z ≡ out) × (writtenAfter size z ≡ size)
+pub written-stays : (w : Sent) (out : List ℕ) (size : ℕ) (z : Written) → ¬ (writeNumber z ≡ 0)
+    → (outAfter w out z ≡ out) × (writtenAfter size z ≡ size)
 written-stays w out size (written.Done k) n = absurd (n refl)
 written-stays w out size (written.Refused x) n = (refl, refl)
 
-pub framed-stays : (s out : List ℕ) (size : ℕ) (z : Framed) → ¬ (frameNumber z ≡ 0) → (sync.outAfter s out z ≡ out) × (framedAfter size z ≡ size)
+pub framed-stays : (s out : List ℕ) (size : ℕ) (z : Framed) → ¬ (frameNumber z ≡ 0)
+    → (sync.outAfter s out z ≡ out) × (framedAfter size z ≡ size)
 framed-stays s out size (framed.Done k) n = absurd (n refl)
 framed-stays s out size (framed.Refused x) n = (refl, refl)
 

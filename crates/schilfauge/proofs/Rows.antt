@@ -29,7 +29,8 @@ module _ (r : Record) (p l : ℕ) where
       )
 
   pub words-there : IsThere r p l
-      → rowAt r (tableOf (r .layers) (r .programs)) p l ≡ rowWords (first + l) (Is (rowOf p l (getD (r .streams) (first + l) noStream)))
+      → rowAt r (tableOf (r .layers) (r .programs)) p l
+      ≡ rowWords (first + l) (Is (rowOf p l (getD (r .streams) (first + l) noStream)))
   words-there h = rw (rows-found r p l h, stream-there h) refl
 
   pub words-absent : ¬ IsThere r p l → rowAt r (tableOf (r .layers) (r .programs)) p l ≡ pos 255 ∷ replicate 8 (pos 0)

@@ -16,8 +16,12 @@ use Rattle.schilfauge.specs.Lent.{heldIn, heldWords, answerIn, heldAfter
 use Rattle.kernel.proofs.Kept.{Told}
 use Rattle.element.proofs.Productions.{Applies, AppliedOk, Refuses, answered}
 use Rattle.element.proofs.Theorems as element
-use Rattle.schilfauge.specs.Claims.{LaidIsHeld, NextFindsHeld, RefusedIs20, RefusedIs1To15, RefusedIs16To19, RefusedIs2Or19, HuntOnce, ReadOnce, RowOnce, WriteOnce, FrameOnce, HuntKeeps, RowKeeps, WriteKeeps, FrameKeeps, RowRefused, RowTold, RowAbsent, WrittenComesBack}
-use Rattle.schilfauge.proofs.Numbers.{hunt-20, written-16, framed-2, found-stays, row-stays, written-stays, framed-stays}
+use Rattle.schilfauge.specs.Claims.{LaidIsHeld, NextFindsHeld, RefusedIs20, RefusedIs1To15, RefusedIs16To19}
+use Rattle.schilfauge.specs.Claims.{RefusedIs2Or19, HuntOnce, ReadOnce, RowOnce, WriteOnce, FrameOnce, HuntKeeps}
+use Rattle.schilfauge.specs.Claims.{RowKeeps, WriteKeeps, FrameKeeps, RowRefused, RowTold, RowAbsent}
+use Rattle.schilfauge.specs.Claims.{WrittenComesBack}
+use Rattle.schilfauge.proofs.Numbers.{hunt-20, written-16, framed-2, found-stays, row-stays, written-stays}
+use Rattle.schilfauge.proofs.Numbers.{framed-stays}
 use Rattle.schilfauge.proofs.Rows.{words-there, words-absent}
 use Rattle.schilfauge.proofs.Words.{held-laid}
 use Rattle.schilfauge.proofs.Trip.{trip}
@@ -27,11 +31,13 @@ use Rattle.schilfauge.proofs.Trip.{trip}
 pub laid-is-held : LaidIsHeld
 laid-is-held = held-laid
 
-held-next : (t : Bool) (w : List ℕ) (r : Record) → Applies (heldIn w) t r → heldIn (cond t (heldWords r) w) ≡ cond t (record { present = true; config = r }) (heldIn w)
+held-next : (t : Bool) (w : List ℕ) (r : Record) → Applies (heldIn w) t r
+    → heldIn (cond t (heldWords r) w) ≡ cond t (record { present = true; config = r }) (heldIn w)
 held-next true w r h = held-laid r (h .layers) (h .streams)
 held-next false w r h = refl
 
-next-held : (w : List ℕ) (R : ℕ → Type 0) (x : Answer Applied) → Told R (AppliedOk (heldIn w)) x → heldIn (heldAfter w x) ≡ replyWith (heldIn w) x .held
+next-held : (w : List ℕ) (R : ℕ → Type 0) (x : Answer Applied) → Told R (AppliedOk (heldIn w)) x
+    → heldIn (heldAfter w x) ≡ replyWith (heldIn w) x .held
 next-held w R (accepted a items n) h = held-next (a .sent) w (a .config) h
 next-held w R (rejected r items) h = refl
 
@@ -58,7 +64,8 @@ pub hunt-keeps : HuntKeeps
 hunt-keeps s start found x found′ p n = p .1 ∙ found-stays found (huntOf s start) (λ e. n (p .0 ∙ e))
 
 pub row-keeps : RowKeeps
-row-keeps r p l row x row′ q n = q .1 ∙ row-stays (validOf r) row (rowAt r (tableOf (r .layers) (r .programs)) p l) (λ e. n (q .0 ∙ e))
+row-keeps r p l row x row′ q n =
+    q .1 ∙ row-stays (validOf r) row (rowAt r (tableOf (r .layers) (r .programs)) p l) (λ e. n (q .0 ∙ e))
 
 pub write-keeps : WriteKeeps
 write-keeps w out size x out′ size′ p n =
@@ -91,13 +98,16 @@ pub hunt-once : HuntOnce
 hunt-once s start found found₁ found₂ x y p q = (p .0 ∙ sym (q .0), p .1 ∙ sym (q .1))
 
 pub read-once : ReadOnce
-read-once s w map w₁ w₂ map₁ map₂ told₁ told₂ x y p q = (p .0 ∙ sym (q .0), p .1 .0 ∙ sym (q .1 .0), p .1 .1 .0 ∙ sym (q .1 .1 .0), p .1 .1 .1 ∙ sym (q .1 .1 .1))
+read-once s w map w₁ w₂ map₁ map₂ told₁ told₂ x y p q =
+    (p .0 ∙ sym (q .0), p .1 .0 ∙ sym (q .1 .0), p .1 .1 .0 ∙ sym (q .1 .1 .0), p .1 .1 .1 ∙ sym (q .1 .1 .1))
 
 pub row-once : RowOnce
 row-once r p l row row₁ row₂ x y a b = (a .0 ∙ sym (b .0), a .1 ∙ sym (b .1))
 
 pub write-once : WriteOnce
-write-once w out out₁ out₂ size size₁ size₂ x y p q = (p .0 ∙ sym (q .0), p .1 .0 ∙ sym (q .1 .0), p .1 .1 ∙ sym (q .1 .1))
+write-once w out out₁ out₂ size size₁ size₂ x y p q =
+    (p .0 ∙ sym (q .0), p .1 .0 ∙ sym (q .1 .0), p .1 .1 ∙ sym (q .1 .1))
 
 pub frame-once : FrameOnce
-frame-once s out out₁ out₂ size size₁ size₂ x y p q = (p .0 ∙ sym (q .0), p .1 .0 ∙ sym (q .1 .0), p .1 .1 ∙ sym (q .1 .1))
+frame-once s out out₁ out₂ size size₁ size₂ x y p q =
+    (p .0 ∙ sym (q .0), p .1 .0 ∙ sym (q .1 .0), p .1 .1 ∙ sym (q .1 .1))

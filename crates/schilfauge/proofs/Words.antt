@@ -26,7 +26,8 @@ use Rattle.element.specs.Reply.{replyWith, replyOf}
 use Rattle.writer.specs.declared.Written.{Written}
 use Rattle.writer.specs.Written.{toSend}
 use Rattle.writer.specs.Write.{writtenOf, outAfter}
-use Rattle.schilfauge.specs.Lent.{heldIn, heldWords, answerIn, heldAfter, keptAfter, rowNumber, rowAt, rowAfter, sentIn, writeNumber, writtenAfter, frameNumber, framedAfter}
+use Rattle.schilfauge.specs.Lent.{heldIn, heldWords, answerIn, heldAfter, keptAfter, rowNumber, rowAt, rowAfter}
+use Rattle.schilfauge.specs.Lent.{sentIn, writeNumber, writtenAfter, frameNumber, framedAfter}
 
 pub byte-bit : (b : Bool) → boolByte b ≡ bit b
 byte-bit true = refl
@@ -42,7 +43,8 @@ word-behind : (b : List ℕ) → length b ≡ 250 → getD (b ++ (1 ∷ [])) 250
 word-behind b n = rw n at (getD-append-seam b 1 [] 0)
 
 -- and is found so
-pub held-laid : (r : Record) → length (r .layers) ≡ 16 → length (r .streams) ≡ 16 → heldIn (heldWords r) ≡ record { present = true; config = r }
+pub held-laid : (r : Record) → length (r .layers) ≡ 16 → length (r .streams) ≡ 16
+    → heldIn (heldWords r) ≡ record { present = true; config = r }
 held-laid r k l =
     let e = word-behind (wordsOf r) (length-words r k l) in
     let f = laid-is-found r (1 ∷ []) k l in
@@ -53,7 +55,8 @@ kept-sent : (t : Bool) (w : List ℕ) (r : Record) (h : Held)
 kept-sent true w r h = refl
 kept-sent false w r h = refl
 
-kept-with : (w : List ℕ) (h : Held) (x : Answer Applied) → keptAfter w (replyWith h x .verdict) (replyWith h x .held .config) ≡ heldAfter w x
+kept-with : (w : List ℕ) (h : Held) (x : Answer Applied)
+    → keptAfter w (replyWith h x .verdict) (replyWith h x .held .config) ≡ heldAfter w x
 kept-with w h (accepted a items n) = kept-sent (a .sent) w (a .config) h
 kept-with w h (rejected r items) = refl
 
@@ -65,27 +68,36 @@ kept-held s w room h x held reply = rw (reply, held) (kept-with w (heldIn w) (an
 module _ (w : List ℕ) (send : Bool) (lengths payload other out out′ : List ℕ) (size : ℕ) where
   -- what is written with a record that was found, and answered as y
   pub write-told : (r : Record) (x y : Written) → r ≡ recordIn w
-      → (x ≡ writtenOf (toSend r send lengths payload other) (length out)) × (out′ ≡ outAfter (toSend r send lengths payload other) out x) → x ≡ y
+      → (x ≡ writtenOf (toSend r send lengths payload other) (length out))
+      × (out′ ≡ outAfter (toSend r send lengths payload other) out x) → x ≡ y
       → let s = sentIn w send lengths payload other in
       (writeNumber y ≡ writeNumber (writtenOf s (length out)))
-      × ((out′ ≡ outAfter s out (writtenOf s (length out))) × (writtenAfter size y ≡ writtenAfter size (writtenOf s (length out))))
+      × ((out′ ≡ outAfter s out (writtenOf s (length out)))
+      × (writtenAfter size y ≡ writtenAfter size (writtenOf s (length out))))
   write-told r x y found met answered =
       let s = sentIn w send lengths payload other in
       let e = rw found at met in
       let p : y ≡ writtenOf s (length out) = sym answered ∙ e .0 in
       (ap writeNumber p, (e .1 ∙ ap (outAfter s out) (e .0), ap (writtenAfter size) p))
 
-module _ (w : List ℕ) (row : List ℤ) (p l : ℕ) (r : Record) {t : Bool} (found : r ≡ recordIn w) (tested : t ≡ validOf r) where
+module _ (w : List ℕ) (row : List ℤ) (p l : ℕ) (r : Record) {t : Bool} (found : r ≡ recordIn w) (tested : t
+    ≡ validOf r) where
   pub no-row : t ≡ false → (16 ≡ rowNumber (recordIn w)) × (row ≡ rowAfter row (recordIn w) p l)
-  no-row bad = let e : validOf (recordIn w) ≡ false = sym (ap validOf found) ∙ sym tested ∙ bad in (rw e refl, rw e refl)
+  no-row bad =
+      let e : validOf (recordIn w) ≡ false = sym (ap validOf found) ∙ sym tested ∙ bad in (rw e refl, rw e refl)
 
-  pub row-found : (row′ : List ℤ) → t ≡ true → row′ ≡ rowAt r (tableOf (r .layers) (r .programs)) p l → (0 ≡ rowNumber (recordIn w)) × (row′ ≡ rowAfter row (recordIn w) p l)
-  row-found row′ good is = let e : validOf (recordIn w) ≡ true = sym (ap validOf found) ∙ sym tested ∙ good in (rw e refl, rw (e, is, found) refl)
+  pub row-found : (row′ : List ℤ) → t ≡ true → row′ ≡ rowAt r (tableOf (r .layers) (r .programs)) p l
+      → (0 ≡ rowNumber (recordIn w)) × (row′ ≡ rowAfter row (recordIn w) p l)
+  row-found row′ good is =
+      let e : validOf (recordIn w) ≡ true = sym (ap validOf found) ∙ sym tested ∙ good in
+      (rw e refl, rw (e, is, found) refl)
 
 -- a frame laid, and answered as y
-pub frame-told : (s out out′ : List ℕ) (size : ℕ) (x y : Framed) → (x ≡ framedOf s (length out)) × (out′ ≡ sync.outAfter s out x) → x ≡ y
+pub frame-told : (s out out′ : List ℕ) (size : ℕ) (x y : Framed)
+    → (x ≡ framedOf s (length out)) × (out′ ≡ sync.outAfter s out x) → x ≡ y
     → (frameNumber y ≡ frameNumber (framedOf s (length out)))
-    × ((out′ ≡ sync.outAfter s out (framedOf s (length out))) × (framedAfter size y ≡ framedAfter size (framedOf s (length out))))
+    × ((out′ ≡ sync.outAfter s out (framedOf s (length out)))
+    × (framedAfter size y ≡ framedAfter size (framedOf s (length out))))
 frame-told s out out′ size x y met answered =
     let p : y ≡ framedOf s (length out) = sym answered ∙ met .0 in
     (ap frameNumber p, (met .1 ∙ ap (sync.outAfter s out) (met .0), ap (framedAfter size) p))

@@ -26,14 +26,17 @@ use Rattle.writer.specs.Written.{Sent}
 use Rattle.writer.specs.Write.{writtenOf}
 use Rattle.element.specs.Left.{shown}
 use Rattle.writer.specs.Claims.{Shows}
-use Rattle.schilfauge.specs.Lent.{huntNumber, heldIn, heldWords, answerIn, heldAfter, readNumber, sentIn, writeNumber, frameNumber}
+use Rattle.schilfauge.specs.Lent.{huntNumber, heldIn, heldWords, answerIn, heldAfter, readNumber, sentIn}
+use Rattle.schilfauge.specs.Lent.{writeNumber, frameNumber}
 use Rattle.schilfauge.specs.Promises.{HuntPromise, ReadPromise, RowPromise, WritePromise, FramePromise}
 
 -- ---- words laid are found again
 
 -- a record laid as present is held; an array has 16 places
 abbrev pub LaidIsHeld : Type 0
-LaidIsHeld = (r : Record) → length (r .layers) ≡ 16 → length (r .streams) ≡ 16 → heldIn (heldWords r) ≡ record { present = true; config = r }
+LaidIsHeld =
+    (r : Record) → length (r .layers) ≡ 16 → length (r .streams) ≡ 16
+    → heldIn (heldWords r) ≡ record { present = true; config = r }
 
 -- so what a reading leaves held, the next one finds
 abbrev pub NextFindsHeld : Type 0
@@ -42,10 +45,13 @@ NextFindsHeld = (s w : List ℕ) (room : ℕ) → heldIn (heldAfter w (answerIn 
 -- ---- where the number answered is not 0, all that is lent is as it stood (of `schilf_read`: Demands)
 
 abbrev pub HuntKeeps : Type 0
-HuntKeeps = (s : List ℕ) (start : ℕ) (found : List ℕ) (x : ℕ) (found′ : List ℕ) → HuntPromise s start found x found′ → ¬ (x ≡ 0) → found′ ≡ found
+HuntKeeps =
+    (s : List ℕ) (start : ℕ) (found : List ℕ) (x : ℕ) (found′ : List ℕ) → HuntPromise s start found x found′
+    → ¬ (x ≡ 0) → found′ ≡ found
 
 abbrev pub RowKeeps : Type 0
-RowKeeps = (r : Record) (p l : ℕ) (row : List ℤ) (x : ℕ) (row′ : List ℤ) → RowPromise r p l row x row′ → ¬ (x ≡ 0) → row′ ≡ row
+RowKeeps =
+    (r : Record) (p l : ℕ) (row : List ℤ) (x : ℕ) (row′ : List ℤ) → RowPromise r p l row x row′ → ¬ (x ≡ 0) → row′ ≡ row
 
 abbrev pub WriteKeeps : Type 0
 WriteKeeps = (w : Sent) (out : List ℕ) (size x : ℕ) (out′ : List ℕ) (size′ : ℕ)
@@ -59,17 +65,25 @@ FrameKeeps = (s out : List ℕ) (size x : ℕ) (out′ : List ℕ) (size′ : �
 
 -- 16 refuses it, and then alone the answer is not 0
 abbrev pub RowRefused : Type 0
-RowRefused = (r : Record) (p l : ℕ) (row : List ℤ) (x : ℕ) (row′ : List ℤ) → RowPromise r p l row x row′ → x ≡ cond (validOf r) 0 16
+RowRefused =
+    (r : Record) (p l : ℕ) (row : List ℤ) (x : ℕ) (row′ : List ℤ) → RowPromise r p l row x row′
+    → x ≡ cond (validOf r) 0 16
 
--- of a pair that is there: the number of its stream, program, layer, core type, core and output frequency, SBR, PS and channels
+-- of a pair that is there: the number of its stream, program, layer, core type, core and output frequency, SBR, PS and
+-- channels
 abbrev pub RowTold : Type 0
-RowTold = (r : Record) (p l : ℕ) (row : List ℤ) (x : ℕ) (row′ : List ℤ) → RowPromise r p l row x row′ → validOf r ≡ true → IsThere r p l
+RowTold =
+    (r : Record) (p l : ℕ) (row : List ℤ) (x : ℕ) (row′ : List ℤ) → RowPromise r p l row x row′ → validOf r ≡ true
+    → IsThere r p l
     → let i = streamsIn (r .layers) (r .programs) p + l in let z = rowOf p l (getD (r .streams) i noStream) in
-    row′ ≡ pos i ∷ pos p ∷ pos l ∷ pos (z .core) ∷ pos (z .rate) ∷ pos (z .output) ∷ z .sbr ∷ z .ps ∷ pos (z .channels) ∷ []
+    row′ ≡ pos i ∷ pos p ∷ pos l ∷ pos (z .core) ∷ pos (z .rate) ∷ pos (z .output) ∷ z .sbr ∷ z .ps
+    ∷ pos (z .channels) ∷ []
 
 -- and of any other 255 and zeros
 abbrev pub RowAbsent : Type 0
-RowAbsent = (r : Record) (p l : ℕ) (row : List ℤ) (x : ℕ) (row′ : List ℤ) → RowPromise r p l row x row′ → validOf r ≡ true → ¬ IsThere r p l
+RowAbsent =
+    (r : Record) (p l : ℕ) (row : List ℤ) (x : ℕ) (row′ : List ℤ) → RowPromise r p l row x row′ → validOf r ≡ true
+    → ¬ IsThere r p l
     → row′ ≡ pos 255 ∷ replicate 8 (pos 0)
 
 -- ---- what schilf_write has written comes back through schilf_frame, schilf_hunt and schilf_read
@@ -78,9 +92,12 @@ RowAbsent = (r : Record) (p l : ℕ) (row : List ℤ) (x : ℕ) (row′ : List �
 abbrev pub elementIn : List ℕ → List ℕ → List ℕ
 elementIn capture found = take (getD found 1 0) (drop (getD found 0 0 + 3) capture)
 
--- behind any bytes, at the end of a capture or before another frame, the frame is found: schilf_hunt from its start answers 0, with its place and the element's bytes
+-- behind any bytes, at the end of a capture or before another frame, the frame is found: schilf_hunt from its start
+-- answers 0, with its place and the element's bytes
 abbrev pub FoundBack : List ℕ → List ℕ → Type 0
-FoundBack el frame = (before more : List ℕ) → (more ≡ []) ⊎ Frame more → let capture = before ++ (frame ++ more) in length capture ≤ 65536
+FoundBack el frame =
+    (before more : List ℕ) → (more ≡ []) ⊎ Frame more → let capture = before ++ (frame ++ more) in
+    length capture ≤ 65536
     → (found : List ℕ) (x : ℕ) (found′ : List ℕ) → HuntPromise capture (length before) found x found′
     → (x ≡ 0) × (found′ ≡ length before ∷ length el ∷ []) × (elementIn capture found′ ≡ el)
 
@@ -93,7 +110,8 @@ pub record ReadBack (w : Sent) (words el : List ℕ) (x : ℕ) (held map told : 
   pub holds : held ≡ words ++ (1 ∷ [])
   pub shows : Shows w el (shown items map)
 
--- an element is framed with 0 where there is room, and its frame is found; and it reads back with the same words held, or with any held if the record was sent
+-- an element is framed with 0 where there is room, and its frame is found; and it reads back with the same words held,
+-- or with any held if the record was sent
 pub record Trip (w : Sent) (words el : List ℕ) : Type 0 where
   pub framed : (out : List ℕ) (size x : ℕ) (out′ : List ℕ) (size′ : ℕ) → FramePromise el out size x out′ size′
       → 3 + length el ≤ length out → (x ≡ 0) × FoundBack el (take size′ out′)
@@ -102,15 +120,18 @@ pub record Trip (w : Sent) (words el : List ℕ) : Type 0 where
 
 -- for any 250 words of 32 bits
 abbrev pub WrittenComesBack : Type 0
-WrittenComesBack = (words : List ℕ) (send : Bool) (lengths payload other out : List ℕ) (size x : ℕ) (out′ : List ℕ) (size′ : ℕ)
+WrittenComesBack =
+    (words : List ℕ) (send : Bool) (lengths payload other out : List ℕ) (size x : ℕ) (out′ : List ℕ) (size′ : ℕ)
     → length words ≡ 250 → ((i : ℕ) → getD words i 0 < 2 ^ 32)
-    → let w = sentIn words send lengths payload other in WritePromise w out size x out′ size′ → x ≡ 0 → Trip w words (take size′ out′)
+    → let w = sentIn words send lengths payload other in
+    WritePromise w out size x out′ size′ → x ≡ 0 → Trip w words (take size′ out′)
 
 -- ---- a refusal can be told from what is accepted
 
 -- a refusal of the hunt is 20, so 0 means that a frame was found
 abbrev pub RefusedIs20 : Type 0
-RefusedIs20 = (s : List ℕ) (start : ℕ) (x : Refusal) → huntOf s start ≡ hunted.Refused x → huntNumber (huntOf s start) ≡ 20
+RefusedIs20 =
+    (s : List ℕ) (start : ℕ) (x : Refusal) → huntOf s start ≡ hunted.Refused x → huntNumber (huntOf s start) ≡ 20
 
 -- a refusal of the reader is 1 to 15, so 0 means that the element was accepted
 abbrev pub RefusedIs1To15 : Type 0
@@ -135,15 +156,20 @@ HuntOnce = (s : List ℕ) (start : ℕ) (found found₁ found₂ : List ℕ) (x 
 
 abbrev pub ReadOnce : Type 0
 ReadOnce = (s w map w₁ w₂ map₁ map₂ told₁ told₂ : List ℕ) (x y : ℕ)
-    → ReadPromise s w map x w₁ map₁ told₁ → ReadPromise s w map y w₂ map₂ told₂ → (x ≡ y) × (w₁ ≡ w₂) × (map₁ ≡ map₂) × (told₁ ≡ told₂)
+    → ReadPromise s w map x w₁ map₁ told₁ → ReadPromise s w map y w₂ map₂ told₂
+    → (x ≡ y) × (w₁ ≡ w₂) × (map₁ ≡ map₂) × (told₁ ≡ told₂)
 
 abbrev pub RowOnce : Type 0
-RowOnce = (r : Record) (p l : ℕ) (row row₁ row₂ : List ℤ) (x y : ℕ) → RowPromise r p l row x row₁ → RowPromise r p l row y row₂ → (x ≡ y) × (row₁ ≡ row₂)
+RowOnce =
+    (r : Record) (p l : ℕ) (row row₁ row₂ : List ℤ) (x y : ℕ) → RowPromise r p l row x row₁
+    → RowPromise r p l row y row₂ → (x ≡ y) × (row₁ ≡ row₂)
 
 abbrev pub WriteOnce : Type 0
 WriteOnce = (w : Sent) (out out₁ out₂ : List ℕ) (size size₁ size₂ x y : ℕ)
-    → WritePromise w out size x out₁ size₁ → WritePromise w out size y out₂ size₂ → (x ≡ y) × (out₁ ≡ out₂) × (size₁ ≡ size₂)
+    → WritePromise w out size x out₁ size₁ → WritePromise w out size y out₂ size₂
+    → (x ≡ y) × (out₁ ≡ out₂) × (size₁ ≡ size₂)
 
 abbrev pub FrameOnce : Type 0
 FrameOnce = (s out out₁ out₂ : List ℕ) (size size₁ size₂ x y : ℕ)
-    → FramePromise s out size x out₁ size₁ → FramePromise s out size y out₂ size₂ → (x ≡ y) × (out₁ ≡ out₂) × (size₁ ≡ size₂)
+    → FramePromise s out size x out₁ size₁ → FramePromise s out size y out₂ size₂
+    → (x ≡ y) × (out₁ ≡ out₂) × (size₁ ≡ size₂)

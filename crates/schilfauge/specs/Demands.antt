@@ -1,4 +1,5 @@
--- The demands, of what `schilf_read` leaves behind: its number, the words held, the map and the words told. proofs/Demands.antt has the theorem of each.
+-- The demands, of what `schilf_read` leaves behind: its number, the words held, the map and the words told.
+-- proofs/Demands.antt has the theorem of each.
 use mathlib.Core.Path.{_≡_}
 use mathlib.Core.Bool.{Bool}
 use mathlib.Core.List.{List, [], _∷_}
@@ -23,7 +24,14 @@ pub record Left : Type 0 where
   pub told : List ℕ
 
 abbrev pub leftBy : List ℕ → List ℕ → Answer Applied → Left
-leftBy held map z = record { number = readNumber (verdictOf z); held = heldAfter held z; map = mapAfter map z; told = answerWords (verdictOf z) }
+leftBy held map z =
+    record {
+      number = readNumber (verdictOf z);
+      held = heldAfter held z;
+      map = mapAfter map z;
+      told = answerWords
+          (verdictOf z);
+    }
 
 -- of the element s, with the words held and the map as they were lent
 abbrev pub leftOf : List ℕ → List ℕ → List ℕ → Left
@@ -60,11 +68,15 @@ module _ (s held map : List ℕ) where
 
   -- a refusal answers its number, and tells its place and the fields read;
   abbrev pub RefusedTold : Type 0
-  RefusedTold = (x : Refusal) → verdict ≡ Refused x → (left .number ≡ x .number) × (left .told ≡ 0 ∷ x .place ∷ x .read ∷ 0 ∷ [])
+  RefusedTold =
+      (x : Refusal) → verdict ≡ Refused x
+      → (left .number ≡ x .number) × (left .told ≡ 0 ∷ x .place ∷ x .fields ∷ 0 ∷ [])
 
   -- an accepted element answers 0, and tells its items, the fields read, and whether a configuration was sent
   abbrev pub AcceptedTold : Type 0
-  AcceptedTold = (items fields : ℕ) (sent : Bool) → verdict ≡ Accepted items fields sent → (left .number ≡ 0) × (left .told ≡ items ∷ 0 ∷ fields ∷ bit sent ∷ [])
+  AcceptedTold =
+      (items fields : ℕ) (sent : Bool) → verdict ≡ Accepted items fields sent
+      → (left .number ≡ 0) × (left .told ≡ items ∷ 0 ∷ fields ∷ bit sent ∷ [])
 
   -- 0: the element has 1 to 8,191 bytes and the map 4,368 numbers or more,
   abbrev pub AcceptedFits : Type 0
@@ -82,22 +94,26 @@ module _ (s held map : List ℕ) where
   abbrev pub ShownCount : Type 0
   ShownCount = left .number ≡ 0 → fieldsTold left + sumPassed (itemsLeft left) ≤ 8 * length s
 
-  -- an element of the same length that agrees outside the payload and other data that the map shows leaves the same behind
+  -- an element of the same length that agrees outside the payload and other data that the map shows leaves the same
+  -- behind
   abbrev pub SameLeft : Type 0
   SameLeft = left .number ≡ 0 → (t : List ℕ) → length t ≡ length s
       → ((i : ℕ) → i < 8 * length s → ¬ InClosed (itemsLeft left) i → bitAt t i ≡ bitAt s i) → leftOf t held map ≡ left
 
-  -- and so does one that agrees with a refused one in every bit before the stop and in the field there, save in payload and other data already passed
+  -- and so does one that agrees with a refused one in every bit before the stop and in the field there, save in payload
+  -- and other data already passed
   abbrev pub SameLeftRefused : Type 0
   SameLeftRefused = (r : Stop) (passed : List Item) → answerIn s held (length map) ≡ rejected r passed
-      → (t : List ℕ) → length t ≡ length s → ((i : ℕ) → i < r .refusal .place + r .there → ¬ InClosed passed i → bitAt t i ≡ bitAt s i)
+      → (t : List ℕ) → length t ≡ length s
+      → ((i : ℕ) → i < r .refusal .place + r .there → ¬ InClosed passed i → bitAt t i ≡ bitAt s i)
       → leftOf t held map ≡ left
 
   -- 0 and a configuration sent: with the words then held, 4 is not answered to the next element
   abbrev pub NextIsNot4 : Type 0
   NextIsNot4 = left .number ≡ 0 → sentTold left ≡ 1 → (t more : List ℕ) → ¬ (leftOf t (left .held) more .number ≡ 4)
 
-  -- any other number: a refusal of the table, at a bit of the element or behind its last, with no more fields than bits; the words held and the map stay
+  -- any other number: a refusal of the table, at a bit of the element or behind its last, with no more fields than
+  -- bits; the words held and the map stay
   abbrev pub RefusedLeft : Type 0
   RefusedLeft = ¬ (left .number ≡ 0)
       → (1 ≤ left .number) × (left .number ≤ 15) × (placeTold left ≤ 8 * length s) × (fieldsTold left ≤ 8 * length s)

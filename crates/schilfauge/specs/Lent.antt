@@ -1,4 +1,5 @@
--- What the functions answer, and what then stands in the words lent to them. A refusal is answered by its number, and 0 says that there is none.
+-- What the functions answer, and what then stands in the words lent to them. A refusal is answered by its number, and 0
+-- says that there is none.
 use mathlib.Core.Bool.{Bool, cond}
 use mathlib.Core.List.{List, [], _∷_, _++_}
 use Prim.Native.Nat.{ℕ}
@@ -66,10 +67,11 @@ abbrev pub readNumber : Verdict → ℕ
 readNumber (Accepted items fields sent) = 0
 readNumber (Refused x) = x .number
 
--- items, place, fields read, and whether a configuration was sent; only a refusal has a place, and only an accepted element items
+-- items, place, fields read, and whether a configuration was sent; only a refusal has a place, and only an accepted
+-- element items
 abbrev pub answerWords : Verdict → List ℕ
 answerWords (Accepted items fields sent) = items ∷ 0 ∷ fields ∷ bit sent ∷ []
-answerWords (Refused x) = 0 ∷ x .place ∷ x .read ∷ 0 ∷ []
+answerWords (Refused x) = 0 ∷ x .place ∷ x .fields ∷ 0 ∷ []
 
 -- ---- rows
 
@@ -83,7 +85,8 @@ streamAt table p l = cond (ltb p 16) (cond (ltb l 8) (getD (getD table p []) l 0
 -- 9 words: the stream's number and its row; zeros behind 255 where there is no row
 abbrev pub rowWords : ℕ → Rowed → List ℤ
 rowWords stream (Is r) =
-    pos stream ∷ pos (r .program) ∷ pos (r .layer) ∷ pos (r .core) ∷ pos (r .rate) ∷ pos (r .output) ∷ r .sbr ∷ r .ps ∷ pos (r .channels) ∷ []
+    pos stream ∷ pos (r .program) ∷ pos (r .layer) ∷ pos (r .core) ∷ pos (r .rate) ∷ pos (r .output) ∷ r .sbr ∷ r .ps
+    ∷ pos (r .channels) ∷ []
 rowWords stream Absent = pos 255 ∷ pos 0 ∷ pos 0 ∷ pos 0 ∷ pos 0 ∷ pos 0 ∷ pos 0 ∷ pos 0 ∷ pos 0 ∷ []
 
 -- by the record's own table

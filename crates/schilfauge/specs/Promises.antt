@@ -1,4 +1,5 @@
--- What each function promises: the number that it answers, and what then stands in all that is lent. The claims that a promise allows one result speak of these.
+-- What each function promises: the number that it answers, and what then stands in all that is lent. The claims that a
+-- promise allows one result speak of these.
 use mathlib.Core.Path.{_≡_}
 use mathlib.Core.List.{List}
 use Prim.Native.Nat.{ℕ}
@@ -10,7 +11,8 @@ use Rattle.sync.specs.Sync as sync
 use Rattle.element.specs.Reply.{verdictOf, mapAfter}
 use Rattle.writer.specs.Written.{Sent}
 use Rattle.writer.specs.Write.{writtenOf, outAfter}
-use Rattle.schilfauge.specs.Lent.{huntNumber, foundAfter, answerIn, heldAfter, readNumber, answerWords, rowNumber, rowAfter, writeNumber, writtenAfter, frameNumber, framedAfter}
+use Rattle.schilfauge.specs.Lent.{huntNumber, foundAfter, answerIn, heldAfter, readNumber, answerWords, rowNumber}
+use Rattle.schilfauge.specs.Lent.{rowAfter, writeNumber, writtenAfter, frameNumber, framedAfter}
 
 abbrev pub HuntPromise : List ℕ → ℕ → List ℕ → ℕ → List ℕ → Type 0
 HuntPromise s start found r found′ =
@@ -21,7 +23,8 @@ HuntPromise s start found r found′ =
 abbrev pub ReadPromise : List ℕ → List ℕ → List ℕ → ℕ → List ℕ → List ℕ → List ℕ → Type 0
 ReadPromise s w map r w′ map′ told′ =
     let z = answerIn s w (length map) in
-    (r ≡ readNumber (verdictOf z)) × ((w′ ≡ heldAfter w z) × ((map′ ≡ mapAfter map z) × (told′ ≡ answerWords (verdictOf z))))
+    (r ≡ readNumber (verdictOf z))
+    × ((w′ ≡ heldAfter w z) × ((map′ ≡ mapAfter map z) × (told′ ≡ answerWords (verdictOf z))))
 
 abbrev pub RowPromise : Record → ℕ → ℕ → List ℤ → ℕ → List ℤ → Type 0
 RowPromise config program layer row r row′ = (r ≡ rowNumber config) × (row′ ≡ rowAfter row config program layer)

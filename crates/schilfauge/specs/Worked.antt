@@ -1,4 +1,5 @@
--- The words of a record as they lie, worked out by hand, and the claim that they come out so. proofs/Worked.antt has the theorem.
+-- The words of a record as they lie, worked out by hand, and the claim that they come out so. proofs/Worked.antt has
+-- the theorem.
 use mathlib.Core.Path.{_≡_}
 use mathlib.Core.List.{[], _∷_}
 use Prim.Native.Nat.{ℕ, _+_}
@@ -13,17 +14,26 @@ use Rattle.record_words.specs.Words.{wordsOf}
 -- a stream whose numbers are those of their words, from word k on
 abbrev streamFrom : ℕ → Freq → Form → Stream
 streamFrom k freq form = record {
-  config = record { core = k; freq = freq; channels = k + 3; frame = k + 4; depends = k + 5; extension = k + 6; form = form };
+  config =
+      record {
+        core = k;
+        freq = freq;
+        channels = k + 3;
+        flag = k + 4;
+        depends = k + 5;
+        extension = k + 6;
+        form = form;
+      };
   kind = k + 11;
   fullness = k + 12;
-  slot = k + 13;
+  fixed = k + 13;
 }
 
 -- and such a record, with a stream of each form
 abbrev numbered : Record
 numbered = record {
   version = 0;
-  variant = 1;
+  subversion = 1;
   tara = 2;
   framing = 3;
   subframes = 4;

@@ -1,12 +1,14 @@
-// The library for callers in C and Rust: numbers, slices and lent arrays. Where something is refused the answer is the refusal's number, else 0.
+// The library for callers in C and Rust: numbers, slices and lent arrays. Where something is refused the answer is the
+// refusal's number, else 0.
 ghost use mathlib.Core.Path.{_≡_};
 ghost use Rattle.records.specs.Table.{tableOf};
 ghost use Rattle.record_words.specs.Words.{recordIn};
-ghost use Rattle.schilfauge.specs.Lent.{heldIn, heldWords, keptAfter, readNumber, answerWords, streamAt, rowWords, rowAt, sentIn};
+ghost use Rattle.schilfauge.specs.Lent.{heldIn, heldWords, keptAfter, readNumber, answerWords, streamAt};
+ghost use Rattle.schilfauge.specs.Lent.{rowWords, rowAt, sentIn};
 ghost use Rattle.schilfauge.specs.Promises.{HuntPromise, ReadPromise, RowPromise, WritePromise, FramePromise};
 use element::Held;
 use element::Verdict;
-use element::read;
+use reader::read;
 use record_words::lay_record;
 use record_words::record_in;
 use records::Record;
@@ -73,7 +75,7 @@ fn answer_words(v: Verdict) -> [usize; 4]
             fields as usize,
             sent as usize,
         ],
-        Verdict::Refused(x) => [0, x.place, x.read, 0],
+        Verdict::Refused(x) => [0, x.place, x.fields, 0],
     }
 }
 
@@ -91,7 +93,8 @@ fn keep(words: &mut [u32; 251], v: Verdict, r: Record)
     }
 }
 
-// One element with what is held before it. Its items go into the map; a configuration that it sends is held from then on.
+// One element with what is held before it. Its items go into the map; a configuration that it sends is held from then
+// on.
 #[no_mangle]
 pub extern "C" fn schilf_read(
     element: &[u8],
@@ -99,7 +102,8 @@ pub extern "C" fn schilf_read(
     map: &mut [u32],
     told: &mut [usize; 4],
 ) -> usize
-    ensures { λ r. ⌜ ReadPromise (now (element .entry)) (now (held .entry)) (now (map .entry)) r (now (held .exit)) (now (map .exit)) (now (told .exit)) ⌝ }
+    ensures { λ r. ⌜ ReadPromise (now (element .entry)) (now (held .entry)) (now (map .entry)) r (now (held .exit))
+        (now (map .exit)) (now (told .exit)) ⌝ }
 {
     let before = held_in(held);
     let reply = read(element, before, map);
@@ -182,7 +186,9 @@ pub extern "C" fn schilf_write(
     out: &mut [u8],
     written: &mut usize,
 ) -> usize
-    ensures { λ r. ⌜ WritePromise (sentIn (now (words .entry)) send (now (lengths .entry)) (now (payload .entry)) (now (other .entry))) (now (out .entry)) (now (written .entry)) r (now (out .exit)) (now (written .exit)) ⌝ }
+    ensures { λ r. ⌜ WritePromise
+        (sentIn (now (words .entry)) send (now (lengths .entry)) (now (payload .entry)) (now (other .entry)))
+        (now (out .entry)) (now (written .entry)) r (now (out .exit)) (now (written .exit)) ⌝ }
 {
     let r = record_in(words);
     match write(r, send, lengths, payload, other, out) {
@@ -197,7 +203,8 @@ pub extern "C" fn schilf_write(
 // The frame of an element, laid into `out`; the bytes of it.
 #[no_mangle]
 pub extern "C" fn schilf_frame(element: &[u8], out: &mut [u8], written: &mut usize) -> usize
-    ensures { λ r. ⌜ FramePromise (now (element .entry)) (now (out .entry)) (now (written .entry)) r (now (out .exit)) (now (written .exit)) ⌝ }
+    ensures { λ r. ⌜ FramePromise (now (element .entry)) (now (out .entry)) (now (written .entry)) r (now (out .exit))
+        (now (written .exit)) ⌝ }
 {
     match frame(element, out) {
         Framed::Done(n) => {

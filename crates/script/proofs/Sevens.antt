@@ -24,5 +24,6 @@ module _ (s : List ℕ) (from : ℕ) where
       let p : from + (i - from) ≡ i = omega arith in
       rw (n, e, p)
 
-  pub sevens-all : (i : ℕ) {b : Bool} → from ≤ i → i - from ≤ length s - from → length s ≤ i → b ≡ sevensUpTo i → b ≡ sevensFrom s from
+  pub sevens-all : (i : ℕ) {b : Bool} → from ≤ i → i - from ≤ length s - from → length s ≤ i → b ≡ sevensUpTo i
+      → b ≡ sevensFrom s from
   sevens-all i h k l e = let n : i - from ≡ length s - from = omega arith in rw n at e

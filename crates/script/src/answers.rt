@@ -35,7 +35,7 @@ pub fn say_refused(x: Refusal) {
     say(b" at bit");
     say_number(x.place);
     say(b", fields");
-    say_number(x.read);
+    say_number(x.fields);
     say(b"\n");
 }
 

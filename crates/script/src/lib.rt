@@ -1,4 +1,5 @@
-// A script of cases (docs/SCRIPT.md): its numbers and bytes, taken from standard input piece by piece, and the words of its answers.
+// A script of cases (docs/SCRIPT.md): its numbers and bytes, taken from standard input piece by piece, and
+// the words of its answers.
 mod answers;
 mod input;
 pub mod map;

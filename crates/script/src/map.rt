@@ -4,7 +4,10 @@ ghost use lib.ListN.{length};
 ghost use Rattle.script.specs.Sevens.{sevens, sevensFrom};
 use crate::answers::say;
 use crate::answers::say_word;
+use items::Item;
+use items::item_at;
 
+// Sets every number to 7.
 pub fn set_all(map: &mut [u32])
     ensures { λ _. ⌜ now (map .exit) ≡ sevens (length (now (map .entry))) ⌝ }
 {
@@ -28,6 +31,7 @@ fn kept_from(map: &[u32], from: usize) -> bool
     kept
 }
 
+// Says whether they are.
 pub fn say_kept(map: &[u32], from: usize) {
     if kept_from(map, from) {
         say(b"map kept\n");
@@ -36,25 +40,21 @@ pub fn say_kept(map: &[u32], from: usize) {
     say(b"map changed\n");
 }
 
-fn say_item(map: &[u32], first: usize) {
-    if map.len() < 4 {
-        return;
-    }
-    if map.len() - 4 < first {
-        return;
-    }
+fn say_item(it: Item) {
     say(b" ");
-    say_word(map[first]);
-    say_word(map[first + 1]);
-    say_word(map[first + 2]);
-    say_word(map[first + 3]);
+    say_word(it.kind);
+    say_word(it.stream);
+    say_word(it.first);
+    say_word(it.width);
     say(b"\n");
 }
 
+// The first items, a line each.
 pub fn say_items(map: &[u32], items: u32) {
     let mut i: u32 = 0;
     while i < items {
-        say_item(map, 4 * (i as usize));
+        let it = item_at(map, i as usize);
+        say_item(it);
         i += 1;
     }
 }

@@ -1,4 +1,5 @@
-// Bytes that are lent to be written to: set to 7 throughout, and then what was written, and whether what stands behind it is as it was set.
+// Bytes that are lent to be written to: set to 7 throughout, and then what was written, and whether what
+// stands behind it is as it was set.
 ghost use mathlib.Core.Path.{_≡_};
 ghost use lib.ListN.{length};
 ghost use Rattle.script.specs.Sevens.{sevens, sevensFrom};

@@ -1,7 +1,5 @@
--- Laws that the proofs of several functions share, and the theorems.
-pub mod Signs
+-- Laws that the proofs of several functions share, and the theorem.
 pub mod Texts
-pub mod Contracts
-pub mod Streams
-pub mod Columns
+pub mod Blocks
 pub mod Theorems
+pub mod Contracts

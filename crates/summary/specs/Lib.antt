@@ -1,4 +1,4 @@
 -- The summary, what its functions promise on the way, and what is claimed of it.
 pub mod Summary
-pub mod Replied
+pub mod Laid
 pub mod Claims

@@ -1,70 +1,19 @@
 -- The summary: a line for each stream of a configuration that becomes held, and one for each refused element.
-use mathlib.Core.Bool.{Bool, cond, not, _&&_, _||_}
-use mathlib.Core.List.{List, [], _∷_, _++_}
-use Prim.Native.Nat.{ℕ, zero, suc, _+_}
+use mathlib.Core.Bool.{Bool, false, cond, not, _&&_, _||_}
+use mathlib.Core.List.{List, [], _++_}
+use Prim.Native.Nat.{ℕ}
 use lib.Dec.{eqb}
-use lib.IntN.{ℤ, pos, negsuc}
-use lib.ListN.{getD}
+use lib.ListN.{length}
 use Rattle.kernel.specs.declared.Refusal.{Refusal}
 use Rattle.kernel.specs.Element.{Answer, accepted, rejected}
-use Rattle.text.specs.Text.{letters, number, column}
-use Rattle.text.specs.Words.{wordsOf}
+use Rattle.text.specs.Text.{letters}
 use Rattle.records.specs.declared.Record.{Record}
 use Rattle.records.specs.Same.{sameRecord}
-use Rattle.records.specs.Table.{tableOf}
-use Rattle.row.specs.declared.Row.{Row}
-use Rattle.row.specs.declared.Rowed.{Rowed}
-use Rattle.row.specs.declared.Rowed.the-variants.{Is, Absent}
-use Rattle.row.specs.Row.{rowIn}
+use Rattle.summary_lines.specs.Lines.{rowsText, refusedText}
 use Rattle.element.specs.declared.Held.{Held}
 use Rattle.element.specs.Mux.{Applied}
-
--- element number, program, layer, stream
-abbrev pub placeText : ℕ → ℕ → ℕ → ℕ → List ℕ
-placeText element program layer stream = number 7 element ++ (column 7 program ++ (column 5 layer ++ column 6 stream))
-
-abbrev pub noType : List ℕ
-noType = letters "  ?         "
-
-abbrev pub types : List (List ℕ)
-types = noType ∷ letters "  1 AAC Main" ∷ letters "  2 AAC LC  " ∷ letters "  3 AAC SSR " ∷ letters "  4 AAC LTP " ∷ []
-
--- core object type with its name, core Hz, output Hz
-abbrev pub coreText : ℕ → ℕ → ℕ → List ℕ
-coreText core rate output = getD types core noType ++ (column 8 rate ++ column 9 output)
-
--- SBR or PS
-abbrev pub flagText : ℤ → List ℕ
-flagText (pos n) = cond (eqb n 0) (letters "  no           ") (letters "  yes          ")
-flagText (negsuc n) = letters "  not signalled"
-
--- SBR, PS, output channels
-abbrev pub signalText : ℤ → ℤ → ℕ → List ℕ
-signalText sbr ps channels = flagText sbr ++ (flagText ps ++ (column 15 channels ++ letters "\n"))
-
-abbrev pub rowText : ℕ → ℕ → Row → List ℕ
-rowText element stream r =
-    placeText element (r .program) (r .layer) stream ++ (coreText (r .core) (r .rate) (r .output) ++ signalText (r .sbr) (r .ps) (r .channels))
-
--- nothing for a layer that is not there
-abbrev pub foundText : ℕ → ℕ → Rowed → List ℕ
-foundText element stream (Is r) = rowText element stream r
-foundText element stream Absent = []
-
-module _ (element : ℕ) (r : Record) (table : List (List ℕ)) where
-  -- k layers of program p, from layer l on
-  unfoldable pub layersText : ℕ → ℕ → ℕ → List ℕ
-  layersText p l zero = []
-  layersText p l (suc k) = foundText element (getD (getD table p []) l 0) (rowIn r table p l) ++ layersText p (l + 1) k
-
-  -- k programs, from program p on
-  unfoldable pub programsText : ℕ → ℕ → List ℕ
-  programsText p zero = []
-  programsText p (suc k) = layersText p 0 8 ++ programsText (p + 1) k
-
--- a line for each stream of a record
-abbrev pub rowsText : ℕ → Record → List ℕ
-rowsText element r = programsText element r (tableOf (r .layers) (r .programs)) 0 16
+use Rattle.capture.specs.Frames.{Seen, start, framesOf}
+use Rattle.capture.specs.Blocks.{textOf}
 
 -- an element changes the held configuration where it sends one that was not held
 abbrev pub changes : Held → Bool → Record → Bool
@@ -72,17 +21,6 @@ changes held sent r = sent && not (held .present && sameRecord (held .config) r)
 
 abbrev pub acceptedText : ℕ → Held → Bool → Record → List ℕ
 acceptedText element held sent r = cond (changes held sent r) (rowsText element r) []
-
--- a refused element: its number, the refusal's number and place,
-abbrev pub refusedAtText : ℕ → ℕ → ℕ → List ℕ
-refusedAtText element refusal place = number 7 element ++ (letters "  refused " ++ (number 2 refusal ++ (letters "  at bit " ++ number 5 place)))
-
--- its count, and the refusal in words
-abbrev pub refusedWhyText : ℕ → ℕ → List ℕ
-refusedWhyText refusal count = letters "  fields read " ++ (number 5 count ++ (letters "  " ++ (wordsOf refusal ++ letters "\n")))
-
-abbrev pub refusedText : ℕ → Refusal → List ℕ
-refusedText element x = refusedAtText element (x .number) (x .place) ++ refusedWhyText (x .number) (x .read)
 
 -- the first element that is refused for want of a configuration has a line in front that says so
 abbrev pub firstWanting : Bool → Refusal → Bool
@@ -94,7 +32,8 @@ wantingText = letters "no configuration yet: elements cannot be read until one i
 abbrev pub refusalText : ℕ → Bool → Refusal → List ℕ
 refusalText element wanting x = cond wanting wantingText [] ++ refusedText element x
 
--- the lines of the element with this number, by what was held before it and whether the want of a configuration was said
+-- the lines of the element with this number, by what was held before it and whether the want of a configuration was
+-- said
 abbrev pub shown : ℕ → Held → Bool → Answer Applied → List ℕ
 shown element held said (accepted a its n) = acceptedText element held (a .sent) (a .config)
 shown element held said (rejected r its) = refusalText element (firstWanting said (r .refusal)) (r .refusal)
@@ -102,3 +41,33 @@ shown element held said (rejected r its) = refusalText element (firstWanting sai
 abbrev pub saidAfter : Bool → Answer Applied → Bool
 saidAfter said (accepted a its n) = said
 saidAfter said (rejected r its) = said || firstWanting said (r .refusal)
+
+-- of a frame, as they are asked of the text of a capture
+abbrev pub framed : Bool → Seen → List ℕ
+framed said m = shown (m .number) (m .before) said (m .reading)
+
+abbrev pub saidThen : Bool → Seen → Bool
+saidThen said m = saidAfter said (m .reading)
+
+-- the first line,
+abbrev pub headText : List ℕ
+headText =
+    letters "element  program  layer  stream  core type    core Hz  output Hz"
+    ++ letters "  SBR            PS             output channels\n"
+
+-- what is said of a capture that has no frame, and of one that was cut off
+abbrev pub noFrameText : List ℕ
+noFrameText = letters "no frame in this capture (refusal 20)\n"
+
+abbrev pub overText : List ℕ
+overText = letters "the capture is longer than 65536 bytes: only the first 65536 were read\n"
+
+-- the last lines, by the number of frames and whether the capture was cut off
+abbrev pub endText : ℕ → Bool → List ℕ
+endText frames over = cond (eqb frames 0) noFrameText [] ++ cond over overText []
+
+-- the summary of a capture
+abbrev pub summaryOf : List ℕ → Bool → List ℕ
+summaryOf s over =
+    let ms = framesOf s 4368 start in
+    headText ++ (textOf framed saidThen false ms ++ endText (length ms) over)

@@ -1,61 +1,72 @@
-// Summarizes a capture for the duty desk: a line for each stream of a configuration that becomes held, and one for each refused element.
+// Summarizes a capture for the duty desk: a line for each stream of a configuration that becomes held, and
+// one for each refused element.
 ghost use mathlib.Core.Path.{_≡_};
-ghost use Prim.Native.Nat.{_≤_};
+ghost use mathlib.Core.Bool.{cond, not, _&&_};
+ghost use mathlib.Core.List.{[]};
+ghost use Prim.Native.Nat.{_+_, _≤_};
+ghost use lib.Dec.{eqb};
 ghost use lib.ListN.{length};
 ghost use Rattle.kernel.specs.Lists.{Stored};
-ghost use Rattle.element.specs.Reply.{answer, replyOf};
-ghost use Rattle.summary.specs.Summary.{changes, firstWanting, refusalText, shown, saidAfter};
-ghost use Rattle.summary.specs.Replied.{acceptedBy, verdictText, verdictSaid};
-
-mod lines;
-mod rows;
-
-use crate::lines::lay_refused;
-use crate::rows::lay_rows;
+ghost use Rattle.records.specs.Same.{sameRecord};
+ghost use Rattle.summary.specs.Summary.{firstWanting, refusalText, headText, noFrameText, overText, endText};
+ghost use Rattle.summary.specs.Laid.{acceptedBy, verdictText, verdictSaid, BlockPromise};
+use capture::Found;
+use capture::Point;
+use capture::advance;
+use capture::block_room;
 use element::Held;
 use element::Verdict;
-use element::nothing_held;
 use kernel::Refusal;
 use kernel::lay;
 use records::Record;
 use records::same_record;
-use sync::Hunted;
+use summary_lines::lay_refused;
+use summary_lines::lay_rows;
 
-fn changed(held: Held, sent: bool, r: Record) -> bool
-    ensures { λ x. ⌜ x ≡ changes held sent r ⌝ }
+fn changed(held: Held, r: Record) -> bool
+    ensures { λ x. ⌜ x ≡ not (held .present && sameRecord (held .config) r) ⌝ }
 {
     let before = held.config;
-    sent & !(held.present & same_record(before, r))
+    !(held.present & same_record(before, r))
 }
 
+// Records are compared only where one was sent.
 fn lay_accepted(
     out: &mut [u8],
+    at: usize,
     element: usize,
     held: Held,
     sent: bool,
     r: Record,
     table: [[u8; 8]; 16],
 ) -> usize
-    ensures { λ x. ⌜ (x ≤ 14336) × Stored (now (out .entry)) 0 (acceptedBy element held sent r table) (now (out .exit)) x ⌝ }
+    requires { ⌜ at ≤ 65536 ⌝ }
+    ensures { λ x. ⌜ (x ≤ at + 14336)
+        × Stored (now (out .entry)) at (acceptedBy element held sent r table) (now (out .exit)) x ⌝ }
 {
-    if changed(held, sent, r) {
-        return lay_rows(out, element, r, table);
+    if !sent {
+        return at;
     }
-    0
+    if changed(held, r) {
+        return lay_rows(out, at, element, r, table);
+    }
+    at
 }
 
-fn lay_refusal(out: &mut [u8], element: usize, wanting: bool, x: Refusal) -> usize
-    ensures { λ r. ⌜ (r ≤ 14336) × Stored (now (out .entry)) 0 (refusalText element wanting x) (now (out .exit)) r ⌝ }
+fn lay_refusal(out: &mut [u8], at: usize, element: usize, wanting: bool, x: Refusal) -> usize
+    requires { ⌜ at ≤ 65536 ⌝ }
+    ensures { λ r. ⌜ (r ≤ at + 14336)
+        × Stored (now (out .entry)) at (refusalText element wanting x) (now (out .exit)) r ⌝ }
 {
     if wanting {
         let a = lay(
             out,
-            0,
+            at,
             b"no configuration yet: elements cannot be read until one is sent\n",
         );
         return lay_refused(out, a, element, x);
     }
-    lay_refused(out, 0, element, x)
+    lay_refused(out, at, element, x)
 }
 
 fn first_wanting(said: bool, x: Refusal) -> bool
@@ -64,8 +75,10 @@ fn first_wanting(said: bool, x: Refusal) -> bool
     !said & (x.number == 4)
 }
 
+// The lines of an element, by its verdict and what a reading left.
 fn lay_verdict(
     out: &mut [u8],
+    at: usize,
     element: usize,
     held: Held,
     said: bool,
@@ -73,13 +86,15 @@ fn lay_verdict(
     r: Record,
     table: [[u8; 8]; 16],
 ) -> usize
-    ensures { λ x. ⌜ (x ≤ 14336) × Stored (now (out .entry)) 0 (verdictText element held said v r table) (now (out .exit)) x ⌝ }
+    requires { ⌜ at ≤ 65536 ⌝ }
+    ensures { λ x. ⌜ (x ≤ at + 14336)
+        × Stored (now (out .entry)) at (verdictText element held said v r table) (now (out .exit)) x ⌝ }
 {
     match v {
-        Verdict::Accepted(_, _, sent) => lay_accepted(out, element, held, sent, r, table),
+        Verdict::Accepted(_, _, sent) => lay_accepted(out, at, element, held, sent, r, table),
         Verdict::Refused(x) => {
             let wanting = first_wanting(said, x);
-            lay_refusal(out, element, wanting, x)
+            lay_refusal(out, at, element, wanting, x)
         }
     }
 }
@@ -93,63 +108,136 @@ fn said_after(said: bool, v: Verdict) -> bool
     }
 }
 
-// What is then held, whether the want of a configuration was said, and the bytes of text.
-struct Shown {
-    held: Held,
+// Where the summary is come to, whether the want of a configuration was said, the bytes of text laid, and
+// whether no frame is left.
+struct Block {
+    reached: Point,
     said: bool,
     bytes: usize,
+    ended: bool,
 }
 
-// The lines of one element, at the start of `out`.
-fn show_element(
-    out: &mut [u8],
-    element: usize,
-    el: &[u8],
-    held: Held,
-    said: bool,
+// The lines of one frame after the other, as long as 65,536 bytes of `out` have room for 128 rows. Map and
+// table are scratch.
+fn lay_frames(
+    capture: &[u8],
+    from: Point,
+    before: bool,
     map: &mut [u32],
-) -> Shown
+    table: &mut [[u8; 8]; 16],
+    out: &mut [u8],
+) -> Block
     requires { ⌜ length (now map) ≡ 4368 ⌝ }
-    ensures held { λ r. ⌜ r .held ≡ replyOf (now (el .entry)) held 4368 .held ⌝ }
-    ensures said { λ r. ⌜ r .said ≡ saidAfter said (answer (now (el .entry)) held 4368) ⌝ }
-    ensures text { λ r. ⌜ (r .bytes ≤ 14336) × Stored (now (out .entry)) 0 (shown element held said (answer (now (el .entry)) held 4368)) (now (out .exit)) (r .bytes) ⌝ }
+    ensures block { λ r. ⌜ BlockPromise (now (capture .entry)) from before (now (out .entry)) r (now (out .exit)) ⌝ }
+    ensures few { λ r. ⌜ r .bytes ≤ length (now (out .entry)) ⌝ }
 {
-    let none = [255; 8];
-    let mut table = [none; 16];
-    let reply = element::read_with(el, held, map, &mut table);
-    let v = reply.verdict;
-    let after = reply.held;
-    let r = after.config;
-    let bytes = lay_verdict(out, element, held, said, v, r, table);
-    let then = said_after(said, v);
-    Shown {
-        held: after,
-        said: then,
-        bytes: bytes,
+    let room = block_room(out.len());
+    let mut reached = from;
+    let mut said = before;
+    let mut used: usize = 0;
+    while used + 14336 <= room {
+        let step = advance(capture, reached, map, table);
+        let found = step.found;
+        let Found::Frame(_, _, v) = found else {
+            return Block {
+                reached: reached,
+                said: said,
+                bytes: used,
+                ended: true,
+            };
+        };
+        let next = step.next;
+        let held = next.held;
+        let filled = *table;
+        used = lay_verdict(
+            out,
+            used,
+            reached.number,
+            reached.held,
+            said,
+            v,
+            held.config,
+            filled,
+        );
+        said = said_after(said, v);
+        reached = next;
+    }
+    Block {
+        reached: reached,
+        said: said,
+        bytes: used,
+        ended: false,
     }
 }
 
-// The lines of a capture; the number of its frames.
-fn show(capture: &[u8], map: &mut [u32], out: &mut [u8]) -> usize
-    requires { ⌜ (length (now map) ≡ 4368) × (length (now out) ≡ 65536) ⌝ }
+// The lines of as many frames as a block is sure to have room for, from a place of a capture on.
+fn lay_block(capture: &[u8], from: Point, said: bool, out: &mut [u8]) -> Block
+    ensures block { λ r. ⌜ BlockPromise (now (capture .entry)) from said (now (out .entry)) r (now (out .exit)) ⌝ }
+    ensures few { λ r. ⌜ r .bytes ≤ length (now (out .entry)) ⌝ }
 {
-    let mut held = nothing_held();
+    let mut map = [0; 4368];
+    let none = [255; 8];
+    let mut table = [none; 16];
+    lay_frames(capture, from, said, &mut map, &mut table, out)
+}
+
+// The first line.
+fn lay_head(out: &mut [u8]) -> usize
+    ensures { λ r. ⌜ (r ≡ 112) × Stored (now (out .entry)) 0 headText (now (out .exit)) r ⌝ }
+{
+    lay(
+        out,
+        0,
+        b"element  program  layer  stream  core type    core Hz  output Hz  SBR            PS             output channels\n",
+    )
+}
+
+fn lay_no_frame(out: &mut [u8], frames: usize) -> usize
+    ensures { λ r. ⌜ (r ≤ 38) × Stored (now (out .entry)) 0 (cond (eqb frames 0) noFrameText []) (now (out .exit)) r ⌝ }
+{
+    if frames == 0 {
+        return lay(out, 0, b"no frame in this capture (refusal 20)\n");
+    }
+    0
+}
+
+fn lay_over(out: &mut [u8], at: usize, over: bool) -> usize
+    requires { ⌜ at ≤ 38 ⌝ }
+    ensures { λ r. ⌜ (r ≤ at + 71) × Stored (now (out .entry)) at (cond over overText []) (now (out .exit)) r ⌝ }
+{
+    if over {
+        return lay(
+            out,
+            at,
+            b"the capture is longer than 65536 bytes: only the first 65536 were read\n",
+        );
+    }
+    at
+}
+
+// The last lines, by the number of frames and whether the capture was cut off.
+fn lay_end(out: &mut [u8], frames: usize, over: bool) -> usize
+    ensures { λ r. ⌜ (r ≤ 109) × Stored (now (out .entry)) 0 (endText frames over) (now (out .exit)) r ⌝ }
+{
+    let a = lay_no_frame(out, frames);
+    lay_over(out, a, over)
+}
+
+// Writes the lines of a capture out, block by block; the number of its frames.
+fn show(capture: &[u8], out: &mut [u8]) -> usize
+    requires { ⌜ length (now out) ≡ 65536 ⌝ }
+{
+    let mut reached = capture::start();
     let mut said = false;
-    let mut number: usize = 0;
-    let mut at: usize = 0;
     loop {
-        let h = sync::hunt(capture, at);
-        let Hunted::Found(p, n) = h else {
-            return number;
-        };
-        let el = sync::element_at(capture, p, n);
-        let done = show_element(out, number, el, held, said, map);
-        let bytes = done.bytes;
+        let block = lay_block(capture, reached, said, out);
+        let bytes = block.bytes;
         io::write_all(1, &out[..bytes]);
-        held = done.held;
-        said = done.said;
-        number += 1;
-        at = p + 3 + n;
+        reached = block.reached;
+        said = block.said;
+        if block.ended {
+            return reached.number;
+        }
     }
 }
 
@@ -158,20 +246,10 @@ fn main() {
     let n = io::read_full(0, &mut buf);
     let mut more = [0; 1];
     let over = io::read_full(0, &mut more);
-    let mut map = [0; 4368];
     let mut out = io::large_buffer();
-    io::write_all(
-        1,
-        b"element  program  layer  stream  core type    core Hz  output Hz  SBR            PS             output channels\n",
-    );
-    let frames = show(&buf[..n], &mut map, &mut out);
-    if frames == 0 {
-        io::write_all(1, b"no frame in this capture (refusal 20)\n");
-    }
-    if over == 1 {
-        io::write_all(
-            1,
-            b"the capture is longer than 65536 bytes: only the first 65536 were read\n",
-        );
-    }
+    let head = lay_head(&mut out);
+    io::write_all(1, &out[..head]);
+    let frames = show(&buf[..n], &mut out);
+    let end = lay_end(&mut out, frames, over == 1);
+    io::write_all(1, &out[..end]);
 }

@@ -43,11 +43,19 @@ module _ (s : List ℕ) where
   Says p k (Refused x) = (x ≡ unread 20) × ((q : ℕ) → p ≤ q → q < p + k → frameAt s q ≡ false)
 
   one-more : (p k : ℕ) (x : Hunted) → frameAt s p ≡ false → Says (p + 1) k x → Says p (suc k) x
-  one-more p k (Found q n) e (w, l) =
-      (record { after = omega (arith, w .after); stands = w .stands; first = λ r lo hi. from-next p r lo (λ i. rw (sym i) e) (λ m. w .first r m hi) }, l)
+  one-more p k (Found q n) e (w, l) = (
+    record {
+      after = omega (arith, w .after);
+      stands = w .stands;
+      first = λ r lo hi.
+          from-next p r lo (λ i. rw (sym i) e) (λ m. w .first r m hi);
+    },
+    l,
+  )
   one-more p k (Refused x) e (w, l) = (w, λ r lo hi. from-next p r lo (λ i. rw (sym i) e) (λ m. l r m (omega arith)))
 
-  turn : (p k : ℕ) (b : Bool) → frameAt s p ≡ b → Says (p + 1) k (firstOf s (p + 1) k) → Says p (suc k) (cond b (Found p (sizeAt s p)) (firstOf s (p + 1) k))
+  turn : (p k : ℕ) (b : Bool) → frameAt s p ≡ b → Says (p + 1) k (firstOf s (p + 1) k)
+      → Says p (suc k) (cond b (Found p (sizeAt s p)) (firstOf s (p + 1) k))
   turn p k true e h = (record { after = omega arith; stands = e; first = λ r lo hi. absurd (omega arith) }, refl)
   turn p k false e h = one-more p k (firstOf s (p + 1) k) e h
 

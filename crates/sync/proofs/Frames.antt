@@ -27,7 +27,8 @@ module _ (el : List ℕ) (room : ℕ) where
   no-room h k r = rw (ne-eqb (length el) 0 (λ e. omega arith), le-ltb 8191 (length el) k, lt-ltb room (3 + length el) r)
 
   pub with-room : 1 ≤ length el → length el ≤ 8191 → 3 + length el ≤ room → framedOf el room ≡ Done (3 + length el)
-  with-room h k r = rw (ne-eqb (length el) 0 (λ e. omega arith), le-ltb 8191 (length el) k, le-ltb room (3 + length el) r)
+  with-room h k r =
+      rw (ne-eqb (length el) 0 (λ e. omega arith), le-ltb 8191 (length el) k, le-ltb room (3 + length el) r)
 
 -- what an answer of `frame` says of the element
 abbrev pub Fits : List ℕ → ℕ → Framed → Type 0
@@ -37,12 +38,14 @@ Fits el room (Refused x) =
     ⊎ ((x .number ≡ 19) × (1 ≤ length el) × (length el ≤ 8191) × (room < 3 + length el))
 
 module _ (el : List ℕ) (room : ℕ) where
-  roomy : (b : Bool) → ltb room (3 + length el) ≡ b → 1 ≤ length el → length el ≤ 8191 → Fits el room (cond b (Refused (unread 19)) (Done (3 + length el)))
+  roomy : (b : Bool) → ltb room (3 + length el) ≡ b → 1 ≤ length el → length el ≤ 8191
+      → Fits el room (cond b (Refused (unread 19)) (Done (3 + length el)))
   roomy true e h k = inr (refl, h, k, ltb-true room (3 + length el) e)
   roomy false e h k = (refl, h, k, ltb-false room (3 + length el) e)
 
   sized : (a b : Bool) → eqb (length el) 0 ≡ a → ltb 8191 (length el) ≡ b
-      → Fits el room (cond (a || b) (Refused (unread 2)) (cond (ltb room (3 + length el)) (Refused (unread 19)) (Done (3 + length el))))
+      → Fits el room (cond (a || b) (Refused (unread 2))
+      (cond (ltb room (3 + length el)) (Refused (unread 19)) (Done (3 + length el))))
   sized true b e f = inl (refl, inl (eqb-true (length el) 0 e))
   sized false true e f = inl (refl, inr (ltb-true 8191 (length el) f))
   sized false false e f =
@@ -68,12 +71,15 @@ module _ (el : List ℕ) (room : ℕ) where
   pub refused-exactly : RefusedExactly el room
   refused-exactly = record {
     for-2 = record { then = λ e. length-refused (rw e at framed-fits); when = refused-for-length };
-    for-19 = record { then = λ e. room-refused (rw e at framed-fits); when = λ h. no-room el room (h .0) (h .1) (h .2) };
+    for-19 =
+        record { then = λ e. room-refused (rw e at framed-fits); when = λ h. no-room el room (h .0) (h .1) (h .2) };
   }
 
 -- three stores and an element laid behind them are the frame, and what stood behind it
-pub stored-is : (el out : List ℕ) (a b c : ℕ) {out′ : List ℕ} {to : ℕ} → 3 + length el ≤ length out → Stored (set (set (set out 0 a) 1 b) 2 c) 3 el out′ to
+pub stored-is : (el out : List ℕ) (a b c : ℕ) {out′ : List ℕ} {to : ℕ} → 3 + length el ≤ length out
+    → Stored (set (set (set out 0 a) 1 b) 2 c) 3 el out′ to
     → out′ ≡ (a ∷ b ∷ c ∷ el) ++ drop to out
 stored-is el out a b c h s =
     let e : length (a ∷ b ∷ c ∷ el) ≡ 3 + length el = omega arith in
-    s .cells ∙ sets-front (a ∷ b ∷ c ∷ el) out (omega (arith, e)) ∙ ap (λ (n : ℕ). (a ∷ b ∷ c ∷ el) ++ drop n out) (e ∙ sym (s .next))
+    s .cells ∙ sets-front (a ∷ b ∷ c ∷ el) out (omega (arith, e))
+    ∙ ap (λ (n : ℕ). (a ∷ b ∷ c ∷ el) ++ drop n out) (e ∙ sym (s .next))

@@ -17,7 +17,8 @@ module _ (s : List ℕ) (p : ℕ) where
   unfolding firstOf
   first-here h e = let n : length s - p ≡ suc (length s - (p + 1)) = omega arith in rw (n, e)
 
-  pub first-on : p < length s → frameAt s p ≡ false → firstOf s p (length s - p) ≡ firstOf s (p + 1) (length s - (p + 1))
+  pub first-on : p < length s → frameAt s p ≡ false
+      → firstOf s p (length s - p) ≡ firstOf s (p + 1) (length s - (p + 1))
   unfolding firstOf
   first-on h e = let n : length s - p ≡ suc (length s - (p + 1)) = omega arith in rw (n, e)
 
@@ -41,7 +42,8 @@ module _ (s : List ℕ) (p : ℕ) where
   hunt-is h e = sym e ∙ rw (le-ltb 65536 (length s) h)
 
   -- what the capture holds, and what it does not
-  pub element-in : (n : ℕ) → leb (p + 3 + n) (length s) ≡ true → take (p + 3 + n - (p + 3)) (drop (p + 3) s) ≡ elementAt s p n
+  pub element-in : (n : ℕ) → leb (p + 3 + n) (length s) ≡ true
+      → take (p + 3 + n - (p + 3)) (drop (p + 3) s) ≡ elementAt s p n
   element-in n e = let k : p + 3 + n - (p + 3) ≡ n = omega arith in rw (e, k)
 
   pub element-out : (n : ℕ) → leb (p + 3 + n) (length s) ≡ false → [] ≡ elementAt s p n

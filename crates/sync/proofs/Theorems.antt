@@ -14,7 +14,9 @@ use Rattle.sync.specs.declared.Hunted.the-variants.{Found, Refused}
 use Rattle.sync.specs.declared.Framed.the-variants as framed
 use Rattle.sync.specs.Sync.{sizeAt, frameAt, firstOf, huntOf, frameOf, outAfter}
 use Rattle.kernel.specs.Answer.{unread}
-use Rattle.sync.specs.Claims.{StandsFirst, FoundIsFirst, FirstIsFound, RefusedIsNone, ElementIsInside, WrittenIsFound, RightIsFramed, RefusalsAreExact, BytesBehindStay, RefusalKeepsOutput, FramedOnce}
+use Rattle.sync.specs.Claims.{StandsFirst, FoundIsFirst, FirstIsFound, RefusedIsNone, ElementIsInside}
+use Rattle.sync.specs.Claims.{WrittenIsFound, RightIsFramed, RefusalsAreExact, BytesBehindStay}
+use Rattle.sync.specs.Claims.{RefusalKeepsOutput, FramedOnce}
 use Rattle.sync.proofs.Places.{hunt-is}
 use Rattle.sync.proofs.First.{past-end, inside, Says, first-says, first-is}
 use Rattle.sync.proofs.Frames.{with-room, framed-fits, refused-exactly}
@@ -27,17 +29,22 @@ Tells s start (Refused x) = (x ≡ unread 20) × ((65536 < length s) ⊎ ((q : �
 
 module _ (s : List ℕ) (start : ℕ) where
   -- no frame inside, so none anywhere
-  anywhere : ((q : ℕ) → start ≤ q → q < length s → frameAt s q ≡ false) → (q : ℕ) (b : Bool) → ltb q (length s) ≡ b → start ≤ q → frameAt s q ≡ false
+  anywhere : ((q : ℕ) → start ≤ q → q < length s → frameAt s q ≡ false) → (q : ℕ) (b : Bool) → ltb q (length s) ≡ b
+      → start ≤ q → frameAt s q ≡ false
   anywhere none q true e lo = none q lo (ltb-true q (length s) e)
   anywhere none q false e lo = past-end s q (ltb-false q (length s) e)
 
   all-places : length s ≤ 65536 → (x : Hunted) → Says s start (length s - start) x → Tells s start x
   all-places m (Found p n) (w, l) = (m, w, l)
-  all-places m (Refused x) (e, none) = (e, inr (λ q lo. anywhere (λ r l h. none r l (omega arith)) q (ltb q (length s)) refl lo))
+  all-places m (Refused x) (e, none) =
+      (e, inr (λ q lo. anywhere (λ r l h. none r l (omega arith)) q (ltb q (length s)) refl lo))
 
-  tests : (b : Bool) → ltb 65536 (length s) ≡ b → Tells s start (cond b (Refused (unread 20)) (firstOf s start (length s - start)))
+  tests : (b : Bool) → ltb 65536 (length s) ≡ b
+      → Tells s start (cond b (Refused (unread 20)) (firstOf s start (length s - start)))
   tests true e = (refl, inl (ltb-true 65536 (length s) e))
-  tests false e = all-places (ltb-false 65536 (length s) e) (firstOf s start (length s - start)) (first-says s (length s - start) start)
+  tests false e =
+      all-places (ltb-false 65536 (length s) e) (firstOf s start (length s - start))
+      (first-says s (length s - start) start)
 
   hunt-tells : Tells s start (huntOf s start)
   hunt-tells = tests (ltb 65536 (length s)) refl

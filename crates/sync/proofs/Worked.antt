@@ -5,4 +5,5 @@ use Rattle.sync.specs.Worked.{WorkedHunts}
 
 pub worked-hunts : WorkedHunts
 unfolding firstOf
-worked-hunts = (refl, refl, refl, refl, refl, refl, refl, refl, refl, refl, refl, refl, refl, refl, refl, refl, refl, refl)
+worked-hunts =
+    (refl, refl, refl, refl, refl, refl, refl, refl, refl, refl, refl, refl, refl, refl, refl, refl, refl, refl)

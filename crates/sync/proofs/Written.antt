@@ -16,7 +16,8 @@ use Rattle.sync.specs.Claims.{Frame, FoundAt}
 use Rattle.sync.proofs.Places.{first-here, hunt-is}
 
 -- the mark of a frame that stands behind other bytes
-mark-behind : (next : List ℕ) → length next ≤ 8191 → (more front : List ℕ) → marked (front ++ (frameOf next ++ more)) (length front) ≡ true
+mark-behind : (next : List ℕ) → length next ≤ 8191 → (more front : List ℕ)
+    → marked (front ++ (frameOf next ++ more)) (length front) ≡ true
 mark-behind next most more front =
     let s = frameOf next ++ more in
     let l : length front + 2 ≤ length (front ++ s) = simp (length-append, length-append) (omega arith) in
@@ -35,7 +36,9 @@ module _ (before el more : List ℕ) (some : 1 ≤ length el) (few : length el �
   length-is = simp (length-append, length-append) (omega arith)
 
   size-is : sizeAt s p ≡ length el
-  size-is = rw (getD-append-add before (frameOf el ++ more) 1 0, getD-append-add before (frameOf el ++ more) 2 0) (omega arith)
+  size-is =
+      rw (getD-append-add before (frameOf el ++ more) 1 0, getD-append-add before (frameOf el ++ more) 2 0)
+      (omega arith)
 
   -- it ends with the capture, or before a mark
   ends : (more ≡ []) ⊎ Frame more → (eqb (p + 3 + length el) (length s) || marked s (p + 3 + length el)) ≡ true

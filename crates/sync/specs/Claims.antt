@@ -26,7 +26,8 @@ FoundIsFirst = (s : List ℕ) (start p n : ℕ) → huntOf s start ≡ Found p n
 
 -- the first frame is found,
 abbrev pub FirstIsFound : Type 0
-FirstIsFound = (s : List ℕ) (start p : ℕ) → length s ≤ 65536 → StandsFirst s start p → huntOf s start ≡ Found p (sizeAt s p)
+FirstIsFound =
+    (s : List ℕ) (start p : ℕ) → length s ≤ 65536 → StandsFirst s start p → huntOf s start ≡ Found p (sizeAt s p)
 
 -- and a refusal is 20, where the capture is too long or no frame stands at or after the start
 abbrev pub RefusedIsNone : Type 0
@@ -52,12 +53,16 @@ FoundAt s p el = (huntOf s p ≡ Found p (length el)) × (elementAt s p (length 
 
 -- so it does over what was written for an element, behind any bytes, at the end of a capture or before another frame
 abbrev pub WrittenIsFound : Type 0
-WrittenIsFound = (before el out : List ℕ) (n : ℕ) (out′ more : List ℕ) → FramePromise el out (framed.Done n) out′ → (more ≡ []) ⊎ Frame more
+WrittenIsFound =
+    (before el out : List ℕ) (n : ℕ) (out′ more : List ℕ) → FramePromise el out (framed.Done n) out′
+    → (more ≡ []) ⊎ Frame more
     → let s = before ++ (take n out′ ++ more) in length s ≤ 65536 → FoundAt s (length before) el
 
 -- every element of 1 to 8,191 bytes is put into a frame where there is room
 abbrev pub RightIsFramed : Type 0
-RightIsFramed = (el : List ℕ) (room : ℕ) → 1 ≤ length el → length el ≤ 8191 → 3 + length el ≤ room → framedOf el room ≡ framed.Done (3 + length el)
+RightIsFramed =
+    (el : List ℕ) (room : ℕ) → 1 ≤ length el → length el ≤ 8191 → 3 + length el ≤ room
+    → framedOf el room ≡ framed.Done (3 + length el)
 
 -- and every other is refused: by 2 for its length, else by 19 for the room
 module _ (el : List ℕ) (room : ℕ) where
@@ -77,7 +82,9 @@ BytesBehindStay = (el out : List ℕ) (n : ℕ) → framedOf el (length out) ≡
     → let out′ = outAfter el out (framedOf el (length out)) in (length out′ ≡ length out) × (drop n out′ ≡ drop n out)
 
 abbrev pub RefusalKeepsOutput : Type 0
-RefusalKeepsOutput = (el out : List ℕ) (x : Refusal) → framedOf el (length out) ≡ framed.Refused x → outAfter el out (framedOf el (length out)) ≡ out
+RefusalKeepsOutput =
+    (el out : List ℕ) (x : Refusal) → framedOf el (length out) ≡ framed.Refused x
+    → outAfter el out (framedOf el (length out)) ≡ out
 
 -- the promise of `frame` allows one answer and one output
 abbrev pub FramedOnce : Type 0

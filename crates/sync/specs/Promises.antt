@@ -1,4 +1,5 @@
--- The promise that is more than one equation, under a name that its function and the claim that it allows one result share.
+-- The promise that is more than one equation, under a name that its function and the claim that it allows one result
+-- share.
 use mathlib.Core.Path.{_≡_}
 use mathlib.Core.List.{List}
 use Prim.Native.Nat.{ℕ}

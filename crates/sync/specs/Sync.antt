@@ -24,7 +24,9 @@ endAt s p = p + 3 + sizeAt s p
 
 -- a frame stands at p: it lies inside the capture, and ends with it or before another mark
 abbrev pub frameAt : List ℕ → ℕ → Bool
-frameAt s p = marked s p && (leb 1 (sizeAt s p) && (leb (endAt s p) (length s) && (eqb (endAt s p) (length s) || marked s (endAt s p))))
+frameAt s p =
+    marked s p && (leb 1 (sizeAt s p)
+    && (leb (endAt s p) (length s) && (eqb (endAt s p) (length s) || marked s (endAt s p))))
 
 -- the first of k places from p on where a frame stands
 unfoldable pub firstOf : List ℕ → ℕ → ℕ → Hunted

@@ -35,7 +35,8 @@ WorkedHunts =
     -- behind other bytes, and behind a mark that is none of a frame
     × (huntOf (0x00 ∷ 0x56 ∷ 0xE0 ∷ 0x02 ∷ 0x80 ∷ 0x00 ∷ []) 0 ≡ Found 1 2)
     × (huntOf (0x56 ∷ 0xE0 ∷ 0x05 ∷ 0x56 ∷ 0xE0 ∷ 0x01 ∷ 0xAA ∷ []) 0 ≡ Found 3 1)
-    -- of two frames each from its start, the second from inside the first, and none from inside the second or from the end
+    -- of two frames each from its start, the second from inside the first, and none from inside the second or from the
+    -- end
     × (huntOf two 0 ≡ Found 0 1)
     × (huntOf two 4 ≡ Found 4 2)
     × (huntOf two 1 ≡ Found 4 2)

@@ -44,7 +44,8 @@ tenth w n h = omega (arith, pow-suc 10 w)
 figures-said : (w n : ℕ) → n < 10 ^ w → saidAfter 0 (figures w n) ≡ n
 unfolding figures saidAfter
 figures-said zero n h = omega arith
-figures-said (suc w) n h = said-more (figures w (n / 10)) 0 _ ∙ rw (figures-said w (n / 10) (tenth w n h)) (last-said n (eqb n 0) refl)
+figures-said (suc w) n h =
+    said-more (figures w (n / 10)) 0 _ ∙ rw (figures-said w (n / 10) (tenth w n h)) (last-said n (eqb n 0) refl)
 
 pub number-said : (w n : ℕ) → n < 10 ^ w → saidAfter 0 (number w n) ≡ n
 unfolding figures saidAfter
@@ -53,7 +54,9 @@ number-said (suc w) n h =
     let e : suc w - 1 ≡ w = omega arith in
     said-more (figures (suc w - 1) (n / 10)) 0 _ ∙ rw (e, figures-said w (n / 10) (tenth w n h)) (digit-said n)
 
-pub figures-step : (l r : List ℕ) (at k m v : ℕ) → v ≡ digitOrBlank m → sets l at (figures (k + 1) m) ≡ r → sets (set l (at + k) v) at (figures k (m / 10)) ≡ r
+pub figures-step : (l r : List ℕ) (at k m v : ℕ) → v ≡ digitOrBlank m → sets l at (figures (k + 1) m) ≡ r
+    → sets (set l (at + k) v) at (figures k (m / 10)) ≡ r
 unfolding figures
 figures-step l r at k m v d e =
-    sets-last (figures k (m / 10)) l at (at + k) v (omega (arith, length-figures k (m / 10))) ∙ rw d (rw (add-one k) at e)
+    sets-last (figures k (m / 10)) l at (at + k) v (omega (arith, length-figures k (m / 10)))
+    ∙ rw d (rw (add-one k) at e)

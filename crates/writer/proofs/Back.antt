@@ -12,7 +12,7 @@ use Rattle.element.specs.Reply.{answer, replyWith, mapAfter, tableAfter}
 use Rattle.element.specs.Left.{shown}
 use Rattle.element.specs.Claims.{EachByKind}
 use Rattle.element.proofs.Theorems.{content-by-kind}
-use Rattle.element.proofs.Demands.{shown-numbers}
+use Rattle.element.proofs.Numbers.{shown-numbers}
 use Rattle.writer.specs.Written.{Sent}
 use Rattle.writer.specs.Claims.{ReadsBack, Shows, ComesBack}
 use Rattle.writer.proofs.Whole.{not-sent}
@@ -29,14 +29,17 @@ shows-back w s held map b =
     let k : EachByKind (b .items) = rw (b .accepts) at (content-by-kind s held (length map)) in
     rw (b .accepts, shown-numbers (b .items) (drop (4 * length (b .items)) map) k) (b .shows)
 
-pub comes-back : (w : Sent) (s : List ℕ) (held : Held) (map : List ℕ) (table : List (List ℕ)) → (w .send ≡ true) ⊎ (held ≡ record { present = true; config = w .config })
+pub comes-back : (w : Sent) (s : List ℕ) (held : Held) (map : List ℕ) (table : List (List ℕ))
+    → (w .send ≡ true) ⊎ (held ≡ record { present = true; config = w .config })
     → ReadsBack w s held (length map) → ComesBack w s held map table
 comes-back w s held map table h b =
     let k = then-held (w .send) (w .config) held h in
     record {
       items = length (b .items);
       fields = b .count;
-      replies = ap (replyWith held) (b .accepts) ∙ (λ i. record { verdict = Accepted (length (b .items)) (b .count) (w .send); held = k i });
+      replies =
+          ap (replyWith held) (b .accepts)
+          ∙ (λ i. record { verdict = Accepted (length (b .items)) (b .count) (w .send); held = k i });
       shows = shows-back w s held map b;
       tables = ap (tableAfter table) (b .accepts);
     }

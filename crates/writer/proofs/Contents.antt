@@ -31,7 +31,8 @@ unfolding contentsOf itemsAt keptBits bitsIn
 contents-kept kind s [] front e = refl
 contents-kept kind s (p ∷ ps) front e =
     let b = p .bits in
-    let h : take (length b) (drop (length front) (unpack s)) ≡ b = rw (e, drop-append-seam) (take-append-seam b (bitsIn ps)) in
+    let h : take (length b) (drop (length front) (unpack s))
+    ≡ b = rw (e, drop-append-seam) (take-append-seam b (bitsIn ps)) in
     let l : length front + length b ≡ length (front ++ b) = sym (length-append front b) in
     let f : unpack s ≡ (front ++ b) ++ bitsIn ps = e ∙ sym (append-assoc front b (bitsIn ps)) in
     rw (h, l, contents-kept kind s ps (front ++ b) f)
@@ -56,22 +57,28 @@ module _ (kind : ℕ) where
 unpack-split : (a b : ℕ) (s : List ℕ) → unpack (take (a + b) s) ≡ unpack (take a s) ++ unpack (take b (drop a s))
 unpack-split a b s = rw (take-add a b s, unpack-append)
 
-payload-kept : (k i : ℕ) (ns payload : List ℕ) → keptBits kindP (payloadPieces i k ns payload) ≡ unpack (take (sumOf k ns) payload)
+payload-kept : (k i : ℕ) (ns payload : List ℕ)
+    → keptBits kindP (payloadPieces i k ns payload) ≡ unpack (take (sumOf k ns) payload)
 unfolding keptBits payloadPieces sumOf unpack
 payload-kept zero i ns payload = refl
-payload-kept (suc k) i ns payload = rw (payload-kept k (i + 1) (drop 1 ns) (drop (getD ns 0 0) payload)) (sym (unpack-split (getD ns 0 0) (sumOf k (drop 1 ns)) payload))
+payload-kept (suc k) i ns payload =
+    rw (payload-kept k (i + 1) (drop 1 ns) (drop (getD ns 0 0) payload))
+    (sym (unpack-split (getD ns 0 0) (sumOf k (drop 1 ns)) payload))
 
-payload-widths : (k i : ℕ) (ns payload : List ℕ) → sumOf k ns ≤ length payload → keptWidths kindP (payloadPieces i k ns payload) ≡ widths k ns
+payload-widths : (k i : ℕ) (ns payload : List ℕ) → sumOf k ns ≤ length payload
+    → keptWidths kindP (payloadPieces i k ns payload) ≡ widths k ns
 unfolding keptWidths payloadPieces sumOf widths
 payload-widths zero i ns payload l = refl
 payload-widths (suc k) i ns payload l =
     let n = getD ns 0 0 in
-    let e : length (unpack (take n payload)) ≡ 8 * n = length-unpack (take n payload) ∙ rw (length-take-le n payload (omega arith)) in
+    let e : length (unpack (take n payload)) ≡ 8 * n = length-unpack (take n payload)
+    ∙ rw (length-take-le n payload (omega arith)) in
     let d : length (drop n payload) ≡ length payload - n = length-drop n payload in
     rw (e, payload-widths k (i + 1) (drop 1 ns) (drop n payload) (omega (arith, d)))
 
 -- no payload is of another kind
-payload-none : (kind : ℕ) → eqb kindP kind ≡ false → (k i : ℕ) (ns payload : List ℕ) → keptBits kind (payloadPieces i k ns payload) ≡ []
+payload-none : (kind : ℕ) → eqb kindP kind ≡ false → (k i : ℕ) (ns payload : List ℕ)
+    → keptBits kind (payloadPieces i k ns payload) ≡ []
 unfolding keptBits payloadPieces
 payload-none kind e zero i ns payload = refl
 payload-none kind e (suc k) i ns payload = rw e (payload-none kind e k (i + 1) (drop 1 ns) (drop (getD ns 0 0) payload))
@@ -86,7 +93,8 @@ widths-split (suc a) b ns =
     rw (e, widths-split a b (drop 1 ns), d)
 
 module _ (ss : List Stream) where
-  pub slots-kept : (n : ℕ) (ns payload : List ℕ) → keptBits kindP (subframePieces n ss ns payload) ≡ unpack (take (sumOf (n * length ss) ns) payload)
+  pub slots-kept : (n : ℕ) (ns payload : List ℕ)
+      → keptBits kindP (subframePieces n ss ns payload) ≡ unpack (take (sumOf (n * length ss) ns) payload)
   unfolding keptBits subframePieces sumOf unpack
   slots-kept zero ns payload = let e : 0 * length ss ≡ 0 = omega arith in rw e
   slots-kept (suc n) ns payload =
@@ -101,7 +109,8 @@ module _ (ss : List Stream) where
       )
       (sym (unpack-split (sumOf k ns) (sumOf (n * k) (drop k ns)) payload))
 
-  pub slots-widths : (n : ℕ) (ns payload : List ℕ) → sumOf (n * length ss) ns ≤ length payload → keptWidths kindP (subframePieces n ss ns payload) ≡ widths (n * length ss) ns
+  pub slots-widths : (n : ℕ) (ns payload : List ℕ) → sumOf (n * length ss) ns ≤ length payload
+      → keptWidths kindP (subframePieces n ss ns payload) ≡ widths (n * length ss) ns
   unfolding keptWidths subframePieces widths
   slots-widths zero ns payload l = let e : 0 * length ss ≡ 0 = omega arith in rw e
   slots-widths (suc n) ns payload l =
@@ -110,14 +119,16 @@ module _ (ss : List Stream) where
       let q : sumOf (suc n * k) ns ≡ sumOf k ns + sumOf (n * k) (drop k ns) = rw e (sum-split k (n * k) ns) in
       let d : length (drop (sumOf k ns) payload) ≡ length payload - sumOf k ns = length-drop (sumOf k ns) payload in
       rw (
-        kept-widths-append kindP (payloadPieces 0 k ns payload) (subframePieces n ss (drop k ns) (drop (sumOf k ns) payload)),
+        kept-widths-append kindP (payloadPieces 0 k ns payload)
+            (subframePieces n ss (drop k ns) (drop (sumOf k ns) payload)),
         payload-widths k 0 ns payload (omega (arith, q)),
         slots-widths n (drop k ns) (drop (sumOf k ns) payload) (omega (arith, q, d)),
         e,
         widths-split k (n * k) ns,
       )
 
-  pub slots-none : (kind : ℕ) → eqb kindL kind ≡ false → eqb kindP kind ≡ false → (n : ℕ) (ns payload : List ℕ) → keptBits kind (subframePieces n ss ns payload) ≡ []
+  pub slots-none : (kind : ℕ) → eqb kindL kind ≡ false → eqb kindP kind ≡ false → (n : ℕ) (ns payload : List ℕ)
+      → keptBits kind (subframePieces n ss ns payload) ≡ []
   unfolding keptBits subframePieces
   slots-none kind l p zero ns payload = refl
   slots-none kind l p (suc n) ns payload =

@@ -26,19 +26,21 @@ use Rattle.writer.proofs.Answers.{right-fits, next-slot, written-16, wr
 
 -- ---- slots that 17 does not refuse have their sizes
 
-slot-right : (s : Stream) (n : ℕ) → slotFits s n ≡ true → (s .kind ≡ 0) ⊎ (n ≡ s .slot + 20)
+slot-right : (s : Stream) (n : ℕ) → slotFits s n ≡ true → (s .kind ≡ 0) ⊎ (n ≡ s .fixed + 20)
 slot-right s n h = go (eqb (s .kind) 0) refl
   where
-    go : (t : Bool) → eqb (s .kind) 0 ≡ t → (s .kind ≡ 0) ⊎ (n ≡ s .slot + 20)
+    go : (t : Bool) → eqb (s .kind) 0 ≡ t → (s .kind ≡ 0) ⊎ (n ≡ s .fixed + 20)
     go true e = inl (eqb-true (s .kind) 0 e)
-    go false e = inr (eqb-true n (s .slot + 20) (either (eqb (s .kind) 0) (eqb n (s .slot + 20)) h e))
+    go false e = inr (eqb-true n (s .fixed + 20) (either (eqb (s .kind) 0) (eqb n (s .fixed + 20)) h e))
 
-row-right : (ss : List Stream) (ns : List ℕ) → rowFits ss ns ≡ true → (i : ℕ) → i < length ss → slotFits (getD ss i noStream) (getD ns i 0) ≡ true
+row-right : (ss : List Stream) (ns : List ℕ) → rowFits ss ns ≡ true → (i : ℕ) → i < length ss
+    → slotFits (getD ss i noStream) (getD ns i 0) ≡ true
 unfolding rowFits
 row-right [] ns h i l = absurd (omega arith)
 row-right (s ∷ ss) ns h zero l = both (slotFits s (getD ns 0 0)) (rowFits ss (drop 1 ns)) h .0
 row-right (s ∷ ss) ns h (suc i) l =
-    rw (next-slot ns i) at (row-right ss (drop 1 ns) (both (slotFits s (getD ns 0 0)) (rowFits ss (drop 1 ns)) h .1) i (omega arith))
+    rw (next-slot ns i) at (row-right ss (drop 1 ns) (both (slotFits s (getD ns 0 0)) (rowFits ss (drop 1 ns)) h .1) i
+    (omega arith))
 
 slots-right : (n : ℕ) (ss : List Stream) (ns : List ℕ) → slotsFit n ss ns ≡ true
     → (j i : ℕ) → j < n → i < length ss → slotFits (getD ss i noStream) (getD ns (j * length ss + i) 0) ≡ true
@@ -49,7 +51,9 @@ slots-right (suc n) ss ns h zero i k l =
     rw e (row-right ss ns (both (rowFits ss ns) (slotsFit n ss (drop (length ss) ns)) h .0) i l)
 slots-right (suc n) ss ns h (suc j) i k l =
     let e : length ss + (j * length ss + i) ≡ suc j * length ss + i = rw (suc-mul j (length ss)) (omega arith) in
-    let b = slots-right n ss (drop (length ss) ns) (both (rowFits ss ns) (slotsFit n ss (drop (length ss) ns)) h .1) j i (omega arith) l in
+    let b =
+    slots-right n ss (drop (length ss) ns) (both (rowFits ss ns) (slotsFit n ss (drop (length ss) ns)) h .1) j i
+    (omega arith) l in
     rw (getD-drop (length ss) ns (j * length ss + i) 0, e) at b
 
 pub fits-right : (w : Sent) → fits w ≡ true → RightSizes w
@@ -91,17 +95,46 @@ module _ (w : Sent) (room : ℕ) where
       cond-says Says (validOf (w .config)) _ _
       (λ v. cond-says Says (fits w) _ _
       (λ f. cond-says Says (ltb 8191 (sizeOf w)) _ _
-      (λ l. (λ e. absurd (omega arith), λ e. absurd (omega arith), λ e. (v, fits-right w f, ltb-true 8191 (sizeOf w) l), λ e. absurd (omega arith)))
+      (λ l. (
+        λ e. absurd (omega arith),
+        λ e.
+            absurd (omega arith),
+        λ e. (v, fits-right w f, ltb-true 8191 (sizeOf w) l),
+        λ e. absurd (omega arith),
+      ))
       (λ l. cond-says Says (ltb room (sizeOf w)) _ _
-      (λ r. (λ e. absurd (omega arith), λ e. absurd (omega arith), λ e. absurd (omega arith), λ e. (v, fits-right w f, ltb-false 8191 (sizeOf w) l, ltb-true room (sizeOf w) r)))
+      (λ r. (
+        λ e. absurd (omega arith),
+        λ e. absurd (omega arith),
+        λ e.
+            absurd (omega arith),
+        λ e. (v, fits-right w f, ltb-false 8191 (sizeOf w) l, ltb-true room (sizeOf w) r),
+      ))
       (λ r. tt)))
-      (λ f. (λ e. absurd (omega arith), λ e. (v, fits-wrong w f), λ e. absurd (omega arith), λ e. absurd (omega arith))))
+      (λ f. (
+        λ e. absurd (omega arith),
+        λ e. (v, fits-wrong w f),
+        λ e. absurd (omega arith),
+        λ e.
+            absurd (omega arith),
+      )))
       (λ v. (λ e. v, λ e. absurd (omega arith), λ e. absurd (omega arith), λ e. absurd (omega arith)))
 
   pub refused-exactly : RefusedExactly w room
   refused-exactly = record {
     for-16 = record { then = λ e. rw e at answer-says .0 refl; when = λ v. sym (written-16 w room v) };
-    for-17 = record { then = λ e. rw e at answer-says .1 refl; when = λ (v, n). sym (written-17 w room v (wrong-fits w n)) };
-    for-18 = record { then = λ e. rw e at answer-says .2 refl; when = λ (v, r, l). sym (written-18 w room v (right-fits w r) l) };
-    for-19 = record { then = λ e. rw e at answer-says .3 refl; when = λ (v, r, l, k). sym (written-19 w room v (right-fits w r) l k) };
+    for-17 =
+        record { then = λ e. rw e at answer-says .1 refl; when = λ (v, n). sym (written-17 w room v (wrong-fits w n)) };
+    for-18 =
+        record {
+          then = λ e. rw e at answer-says .2 refl;
+          when = λ (v, r, l).
+              sym (written-18 w room v (right-fits w r) l);
+        };
+    for-19 =
+        record {
+          then = λ e. rw e at answer-says .3 refl;
+          when = λ (v, r, l, k).
+              sym (written-19 w room v (right-fits w r) l k);
+        };
   }

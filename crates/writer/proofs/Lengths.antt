@@ -13,7 +13,8 @@ use Rattle.kernel.proofs.Bits.{length-bitsOf}
 use Rattle.kernel.proofs.Held.{length-unpack}
 use Rattle.records.specs.declared.Stream.{Stream}
 use Rattle.element.specs.Mux.{kindO}
-use Rattle.writer.specs.Written.{piece, bitsIn, onesBits, lengthBits, lengthsBits, payloadPieces, sumOf, subframePieces}
+use Rattle.writer.specs.Written.{piece, bitsIn, onesBits, lengthBits, lengthsBits, payloadPieces, sumOf}
+use Rattle.writer.specs.Written.{subframePieces}
 use Rattle.writer.specs.Sizes.{rowBytes, lengthBytes}
 use Rattle.writer.proofs.Pieces.{bits-append}
 use Rattle.writer.proofs.TripElement.{sum-split}
@@ -34,14 +35,17 @@ slot-length false n = refl
 pub row-length : (ss : List Stream) (ns : List ℕ) → length (lengthsBits ss ns) ≡ 8 * rowBytes ss ns
 unfolding lengthsBits rowBytes
 row-length [] ns = refl
-row-length (s ∷ ss) ns = simp length-append (omega (arith, slot-length (eqb (s .kind) 0) (getD ns 0 0), row-length ss (drop 1 ns)))
+row-length (s ∷ ss) ns =
+    simp length-append (omega (arith, slot-length (eqb (s .kind) 0) (getD ns 0 0), row-length ss (drop 1 ns)))
 
-payload-length : (k i : ℕ) (ns payload : List ℕ) → sumOf k ns ≤ length payload → length (bitsIn (payloadPieces i k ns payload)) ≡ 8 * sumOf k ns
+payload-length : (k i : ℕ) (ns payload : List ℕ) → sumOf k ns ≤ length payload
+    → length (bitsIn (payloadPieces i k ns payload)) ≡ 8 * sumOf k ns
 unfolding bitsIn payloadPieces sumOf
 payload-length zero i ns payload l = refl
 payload-length (suc k) i ns payload l =
     let n = getD ns 0 0 in
-    let e : length (unpack (take n payload)) ≡ 8 * n = length-unpack (take n payload) ∙ rw (length-take-le n payload (omega arith)) in
+    let e : length (unpack (take n payload)) ≡ 8 * n = length-unpack (take n payload)
+    ∙ rw (length-take-le n payload (omega arith)) in
     let d : length (drop n payload) ≡ length payload - n = length-drop n payload in
     simp length-append (omega (arith, e, payload-length k (i + 1) (drop 1 ns) (drop n payload) (omega (arith, d))))
 
@@ -56,10 +60,18 @@ slots-length (suc n) ss ns payload l =
     let d : length (drop (sumOf k ns) payload) ≡ length payload - sumOf k ns = length-drop (sumOf k ns) payload in
     let rest = subframePieces n ss (drop k ns) (drop (sumOf k ns) payload) in
     simp (bits-append (payloadPieces 0 k ns payload) rest, length-append)
-    (omega (arith, q, row-length ss ns, payload-length k 0 ns payload (omega (arith, q)), slots-length n ss (drop k ns) (drop (sumOf k ns) payload) (omega (arith, q, d))))
+    (omega (
+      arith,
+      q,
+      row-length ss ns,
+      payload-length k 0 ns payload (omega (arith, q)),
+      slots-length n ss
+          (drop k ns) (drop (sumOf k ns) payload) (omega (arith, q, d)),
+    ))
 
 pub other-length : (b : Bool) (bits : ℕ) (other : List ℕ) → (b ≡ true → bits ≤ 8 * length other)
     → length (bitsIn (cond b (piece (passed closed) kindO 0 (take bits (unpack other)) ∷ []) [])) ≡ cond b bits 0
 unfolding bitsIn
-other-length true bits other h = simp length-append (omega (arith, length-take-le bits (unpack other) (omega (arith, length-unpack other, h refl))))
+other-length true bits other h =
+    simp length-append (omega (arith, length-take-le bits (unpack other) (omega (arith, length-unpack other, h refl))))
 other-length false bits other h = refl

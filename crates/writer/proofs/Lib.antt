@@ -12,5 +12,4 @@ pub mod Exact
 pub mod Back
 pub mod Said
 pub mod Theorems
-pub mod Worked
 pub mod Contracts

@@ -19,7 +19,8 @@ pub front-held : (b : Bool) (r : Record) → b ≡ false → bitsOf 1 1 ≡ fron
 unfolding bitsIn
 front-held b r e = rw (e, append-nil (bitsOf 1 1))
 
-pub other-there : (present bits : ℕ) (other : List ℕ) → eqb present 1 ≡ true → take bits (unpack other) ≡ otherBits present bits other
+pub other-there : (present bits : ℕ) (other : List ℕ) → eqb present 1 ≡ true
+    → take bits (unpack other) ≡ otherBits present bits other
 unfolding bitsIn
 other-there present bits other e = rw (e, append-nil (take bits (unpack other)))
 

@@ -43,15 +43,18 @@ module _ (ss : List Stream) (ns : List ℕ) (i at : ℕ) (h : i < length ss) whe
   next-is : drop 1 (drop at ns) ≡ drop (at + 1) ns
   next-is = drop-drop 1 at ns
 
-  pub fits-turn : rowFits (drop i ss) (drop at ns) ≡ (slotFits (getD ss i noStream) (getD ns at 0) && rowFits (drop (i + 1) ss) (drop (at + 1) ns))
+  pub fits-turn : rowFits (drop i ss) (drop at ns)
+      ≡ (slotFits (getD ss i noStream) (getD ns at 0) && rowFits (drop (i + 1) ss) (drop (at + 1) ns))
   unfolding rowFits
   fits-turn = rw (stream-is, slot-is, next-is)
 
-  pub bytes-turn : rowBytes (drop i ss) (drop at ns) ≡ slotBytes (getD ss i noStream) (getD ns at 0) + rowBytes (drop (i + 1) ss) (drop (at + 1) ns)
+  pub bytes-turn : rowBytes (drop i ss) (drop at ns)
+      ≡ slotBytes (getD ss i noStream) (getD ns at 0) + rowBytes (drop (i + 1) ss) (drop (at + 1) ns)
   unfolding rowBytes
   bytes-turn = rw (stream-is, slot-is, next-is)
 
-  pub bits-turn : lengthsBits (drop i ss) (drop at ns) ≡ slotBits (getD ss i noStream .kind) (getD ns at 0) ++ lengthsBits (drop (i + 1) ss) (drop (at + 1) ns)
+  pub bits-turn : lengthsBits (drop i ss) (drop at ns)
+      ≡ slotBits (getD ss i noStream .kind) (getD ns at 0) ++ lengthsBits (drop (i + 1) ss) (drop (at + 1) ns)
   unfolding lengthsBits
   bits-turn = rw (stream-is, slot-is, next-is)
 
@@ -60,7 +63,8 @@ module _ (ss : List Stream) (ns : List ℕ) (i at : ℕ) (h : i < length ss) whe
   sum-turn k = rw (slot-is, next-is)
 
 -- the same of the first streams of an array, and lengths from a place on
-module _ (streams : List Stream) (count : ℕ) (ns : List ℕ) (from i : ℕ) (h : i < count) (l : count ≤ length streams) where
+module _ (streams : List Stream) (count : ℕ) (ns : List ℕ) (from i : ℕ) (h : i < count) (l : count
+    ≤ length streams) where
   abbrev row : List Stream
   row = take count streams
 
@@ -70,26 +74,40 @@ module _ (streams : List Stream) (count : ℕ) (ns : List ℕ) (from i : ℕ) (h
   place-is : from + (i + 1) ≡ from + i + 1
   place-is = omega arith
 
-  pub array-fits-turn : rowFits (drop i row) (drop (from + i) ns) ≡ (slotFits (getD streams i noStream) (getD ns (from + i) 0) && rowFits (drop (i + 1) row) (drop (from + (i + 1)) ns))
+  pub array-fits-turn : rowFits (drop i row) (drop (from + i) ns)
+      ≡ (slotFits (getD streams i noStream) (getD ns (from + i) 0)
+      && rowFits (drop (i + 1) row) (drop (from + (i + 1)) ns))
   array-fits-turn = rw (← getD-take count streams i noStream h, place-is) (fits-turn row ns i (from + i) inside)
 
-  pub array-bytes-turn : rowBytes (drop i row) (drop (from + i) ns) ≡ slotBytes (getD streams i noStream) (getD ns (from + i) 0) + rowBytes (drop (i + 1) row) (drop (from + (i + 1)) ns)
+  pub array-bytes-turn : rowBytes (drop i row) (drop (from + i) ns)
+      ≡ slotBytes (getD streams i noStream) (getD ns (from + i) 0)
+      + rowBytes (drop (i + 1) row) (drop (from + (i + 1)) ns)
   array-bytes-turn = rw (← getD-take count streams i noStream h, place-is) (bytes-turn row ns i (from + i) inside)
 
-  pub array-bits-turn : lengthsBits (drop i row) (drop (from + i) ns) ≡ slotBits (getD streams i noStream .kind) (getD ns (from + i) 0) ++ lengthsBits (drop (i + 1) row) (drop (from + (i + 1)) ns)
+  pub array-bits-turn : lengthsBits (drop i row) (drop (from + i) ns)
+      ≡ slotBits (getD streams i noStream .kind) (getD ns (from + i) 0)
+      ++ lengthsBits (drop (i + 1) row) (drop (from + (i + 1)) ns)
   array-bits-turn = rw (← getD-take count streams i noStream h, place-is) (bits-turn row ns i (from + i) inside)
 
-  pub array-sum-turn : sumOf (count - i) (drop (from + i) ns) ≡ getD ns (from + i) 0 + sumOf (count - (i + 1)) (drop (from + (i + 1)) ns)
-  array-sum-turn = let e : count - i ≡ suc (count - (i + 1)) = omega arith in rw (e, place-is) (sum-turn row ns i (from + i) inside (count - (i + 1)))
+  pub array-sum-turn : sumOf (count - i) (drop (from + i) ns)
+      ≡ getD ns (from + i) 0 + sumOf (count - (i + 1)) (drop (from + (i + 1)) ns)
+  array-sum-turn =
+      let e : count - i ≡ suc (count - (i + 1)) = omega arith in
+      rw (e, place-is) (sum-turn row ns i (from + i) inside (count - (i + 1)))
 
 -- past the last of a row
 pub row-done : (streams : List Stream) (count : ℕ) → count ≤ length streams → drop count (take count streams) ≡ []
-row-done streams count l = let e : count ≡ length (take count streams) = sym (length-take-le count streams l) in subst (λ (n : ℕ). drop n (take count streams) ≡ []) (sym e) (drop-length (take count streams))
+row-done streams count l =
+    let e : count ≡ length (take count streams) = sym (length-take-le count streams l) in
+    subst (λ (n : ℕ). drop n (take count streams) ≡ []) (sym e) (drop-length (take count streams))
 
 -- the end of the loop that measures a row
-pub row-measured : (streams : List Stream) (count : ℕ) (ns : List ℕ) (from : ℕ) {f : Bool} {l p : ℕ} → count ≤ length streams
-    → (f && rowFits (drop count (take count streams)) (drop (from + count) ns)) ≡ rowFits (take count streams) (drop from ns)
-    → l + rowBytes (drop count (take count streams)) (drop (from + count) ns) ≡ rowBytes (take count streams) (drop from ns)
+pub row-measured : (streams : List Stream) (count : ℕ) (ns : List ℕ) (from : ℕ) {f : Bool} {l p : ℕ}
+    → count ≤ length streams
+    → (f && rowFits (drop count (take count streams)) (drop (from + count) ns))
+    ≡ rowFits (take count streams) (drop from ns)
+    → l + rowBytes (drop count (take count streams)) (drop (from + count) ns)
+    ≡ rowBytes (take count streams) (drop from ns)
     → p + sumOf (count - count) (drop (from + count) ns) ≡ sumOf count (drop from ns)
     → _≡_ {A = Measure} (record { fits = f; lengths = l; payload = p }) (measureOf (take count streams) (drop from ns))
 unfolding rowFits rowBytes sumOf

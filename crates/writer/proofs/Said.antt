@@ -23,9 +23,11 @@ record Begins (b front : List Bool) : Type 0 where
   is : b ≡ front ++ rest
 
 front-begins : (t : Bool) (r : Record) (x y : List Piece) → t ≡ true
-    → Begins (bitsIn ((piece fields kindU 0 (bitsOf 1 (cond t 0 1)) ∷ (configPieces t r ++ x)) ++ y)) (bitsOf 1 0 ++ muxBits r)
+    → Begins (bitsIn ((piece fields kindU 0 (bitsOf 1 (cond t 0 1)) ∷ (configPieces t r ++ x)) ++ y)) (bitsOf 1 0
+    ++ muxBits r)
 unfolding bitsIn
-front-begins true r x y e = record { rest = bitsIn (x ++ y); is = sym (append-assoc (bitsOf 1 0) (muxBits r) (bitsIn (x ++ y))) }
+front-begins true r x y e =
+    record { rest = bitsIn (x ++ y); is = sym (append-assoc (bitsOf 1 0) (muxBits r) (bitsIn (x ++ y))) }
 front-begins false r x y e = absurd (let z : bit false ≡ bit true = ap bit e in omega arith)
 
 sent-begins : (w : Sent) → w .send ≡ true → Begins (elementBits w) (bitsOf 1 0 ++ muxBits (w .config))
@@ -40,7 +42,8 @@ bit-exactly x q h = record { then = λ e. h .then (bit-true x (sym q ∙ e)); wh
 
 module _ (w : Sent) (n : ℕ) (behind : List ℕ) (whole : length (elementBits w) ≡ 8 * n) (sent : w .send ≡ true) where
   pub bit-says : (p l i : ℕ) → SaysSame (w .config) p l i
-      → Exactly (bitAt (pack n (elementBits w) ++ behind) (1 + length (bitsBefore (w .config) p l)) ≡ 1) (configAt (w .config .streams) (i - 1) ≡ configAt (w .config .streams) i)
+      → Exactly (bitAt (pack n (elementBits w) ++ behind) (1 + length (bitsBefore (w .config) p l))
+      ≡ 1) (configAt (w .config .streams) (i - 1) ≡ configAt (w .config .streams) i)
   bit-says p l i h =
       let front = bitsOf 1 0 ++ bitsBefore (w .config) p l in
       let b = sent-begins w sent in
@@ -48,4 +51,5 @@ module _ (w : Sent) (n : ℕ) (behind : List ℕ) (whole : length (elementBits w
       let e : unpack (pack n (elementBits w) ++ behind) ≡ front ++ ((h .same ∷ []) ++ rest) =
       rw (unpack-append, unpack-pack n (elementBits w) whole, b .is, h .stands) (simp append-assoc refl) in
       let k : length front ≡ 1 + length (bitsBefore (w .config) p l) = simp (length-append, length-bitsOf) refl in
-      bit-exactly (h .same) (rw k at (unpack-holds (pack n (elementBits w) ++ behind) front (h .same ∷ []) rest e .0)) (h .says)
+      bit-exactly (h .same) (rw k at (unpack-holds (pack n (elementBits w) ++ behind) front (h .same ∷ []) rest e .0))
+      (h .says)

@@ -27,14 +27,22 @@ pub part-is : (l : List ℕ) (s p : ℕ) → take (s + p - s) (drop s l) ≡ tak
 part-is l s p = let e : s + p - s ≡ p = omega arith in rw e
 
 pub part-length : (l : List ℕ) (s p : ℕ) → s + p ≤ length l → length (take (s + p - s) (drop s l)) ≡ p
-part-length l s p h = let d : length (drop s l) ≡ length l - s = length-drop s l in rw (part-is l s p) (length-take-le p (drop s l) (omega (arith, d)))
+part-length l s p h =
+    let d : length (drop s l) ≡ length l - s = length-drop s l in
+    rw (part-is l s p) (length-take-le p (drop s l) (omega (arith, d)))
 
 -- the payloads of a row are one run of bytes
-payload-bits : (k i : ℕ) (ns payload : List ℕ) → bitsIn (payloadPieces i k ns payload) ≡ unpack (take (sumOf k ns) payload)
+payload-bits : (k i : ℕ) (ns payload : List ℕ)
+    → bitsIn (payloadPieces i k ns payload) ≡ unpack (take (sumOf k ns) payload)
 unfolding bitsIn payloadPieces sumOf unpack
 payload-bits zero i ns payload = refl
 payload-bits (suc k) i ns payload =
-    rw (payload-bits k (i + 1) (drop 1 ns) (drop (getD ns 0 0) payload), take-add (getD ns 0 0) (sumOf k (drop 1 ns)) payload, unpack-append)
+    rw (
+      payload-bits k (i + 1) (drop 1 ns) (drop (getD ns 0 0) payload),
+      take-add (getD ns 0 0)
+          (sumOf k (drop 1 ns)) payload,
+      unpack-append,
+    )
 
 module _ (streams : List Stream) (count : ℕ) (ns : List ℕ) (l : count ≤ length streams) (m from : ℕ) where
   abbrev row : List Stream
@@ -46,34 +54,42 @@ module _ (streams : List Stream) (count : ℕ) (ns : List ℕ) (l : count ≤ le
   next-is : drop (length row) (drop from ns) ≡ drop (from + count) ns
   next-is = drop-drop (length row) from ns ∙ rw count-is
 
-  pub all-fits-turn : slotsFit (suc m) row (drop from ns) ≡ (rowFits row (drop from ns) && slotsFit m row (drop (from + count) ns))
+  pub all-fits-turn : slotsFit (suc m) row (drop from ns)
+      ≡ (rowFits row (drop from ns) && slotsFit m row (drop (from + count) ns))
   unfolding slotsFit
   all-fits-turn = rw next-is
 
-  pub all-bytes-turn : lengthBytes (suc m) row (drop from ns) ≡ rowBytes row (drop from ns) + lengthBytes m row (drop (from + count) ns)
+  pub all-bytes-turn : lengthBytes (suc m) row (drop from ns)
+      ≡ rowBytes row (drop from ns) + lengthBytes m row (drop (from + count) ns)
   unfolding lengthBytes
   all-bytes-turn = rw next-is
 
-  pub all-sum-turn : sumOf (suc m * count) (drop from ns) ≡ sumOf count (drop from ns) + sumOf (m * count) (drop (from + count) ns)
+  pub all-sum-turn : sumOf (suc m * count) (drop from ns)
+      ≡ sumOf count (drop from ns) + sumOf (m * count) (drop (from + count) ns)
   all-sum-turn =
       let e : suc m * count ≡ count + m * count = omega arith in
       rw e (sum-split count (m * count) (drop from ns) ∙ rw (drop-drop count from ns))
 
   pub all-bits-turn : (payload : List ℕ) (start : ℕ) → let s = sumOf count (drop from ns) in
       bitsIn (subframePieces (suc m) row (drop from ns) (drop start payload))
-      ≡ lengthsBits row (drop from ns) ++ (unpack (take s (drop start payload)) ++ bitsIn (subframePieces m row (drop (from + count) ns) (drop (start + s) payload)))
+      ≡ lengthsBits row (drop from ns)
+      ++ (unpack (take s (drop start payload))
+      ++ bitsIn (subframePieces m row (drop (from + count) ns) (drop (start + s) payload)))
   unfolding subframePieces bitsIn
   all-bits-turn payload start =
       rw (
         next-is,
-        bits-append (payloadPieces 0 (length row) (drop from ns) (drop start payload)) (subframePieces m row (drop (from + count) ns) (drop (sumOf (length row) (drop from ns)) (drop start payload))),
+        bits-append (payloadPieces 0 (length row) (drop from ns) (drop start payload))
+            (subframePieces m row (drop (from + count) ns)
+            (drop (sumOf (length row) (drop from ns)) (drop start payload))),
         payload-bits (length row) 0 (drop from ns) (drop start payload),
         count-is,
         drop-drop (sumOf count (drop from ns)) start payload,
       )
 
 -- the end of the loop that measures them
-pub all-measured : (streams : List Stream) (count n : ℕ) (ns : List ℕ) (from : ℕ) {f : Bool} {x y : ℕ} → count ≤ length streams
+pub all-measured : (streams : List Stream) (count n : ℕ) (ns : List ℕ) (from : ℕ) {f : Bool} {x y : ℕ}
+    → count ≤ length streams
     → (f && slotsFit 0 (take count streams) (drop from ns)) ≡ slotsFit n (take count streams) ns
     → x + lengthBytes 0 (take count streams) (drop from ns) ≡ lengthBytes n (take count streams) ns
     → y + sumOf (0 * count) (drop from ns) ≡ sumOf (n * count) ns

@@ -11,7 +11,9 @@ use Rattle.config.proofs.Theorems as config
 use Rattle.writer.specs.declared.Written.the-variants.{Done}
 use Rattle.writer.specs.Written.{elementBits, sizeOf}
 use Rattle.writer.specs.Write.{outAfter}
-use Rattle.writer.specs.Claims.{ReadsBack, WrittenReadsBack, WrittenComesBack, BytesBehindStay, RefusalKeepsOutput, SameWhereEqual, RightIsWritten, DoneIsRight, RefusalsAreExact, WrittenOnce}
+use Rattle.writer.specs.Claims.{ReadsBack, WrittenReadsBack, WrittenComesBack, BytesBehindStay}
+use Rattle.writer.specs.Claims.{RefusalKeepsOutput, SameWhereEqual, RightIsWritten, DoneIsRight, RefusalsAreExact}
+use Rattle.writer.specs.Claims.{WrittenOnce}
 use Rattle.writer.proofs.Answers.{written-done, right-fits}
 use Rattle.writer.proofs.Back.{comes-back}
 use Rattle.writer.proofs.Said.{bit-says}
@@ -21,12 +23,17 @@ use Rattle.writer.proofs.Whole.{written-says, fits-are, whole-bytes, so
 pub written-reads-back : WrittenReadsBack
 written-reads-back w out n types e held h room r =
     let s = rw e at (written-says w (length out)) in
-    let b : pack (sizeOf w) (elementBits w) ≡ take n (pack n (elementBits w) ++ drop n out) = rw (s .4) (sym (take-at (pack (sizeOf w) (elementBits w)) _ (sizeOf w) (length-pack (sizeOf w) (elementBits w)))) in
-    subst (λ (t : List ℕ). ReadsBack w t held room) b (reads-back w types (s .0) (fits-are w (s .1)) (s .2) held h room r)
+    let b : pack (sizeOf w) (elementBits w)
+    ≡ take n (pack n (elementBits w) ++ drop n out) =
+    rw (s .4) (sym (take-at (pack (sizeOf w) (elementBits w)) _ (sizeOf w)
+    (length-pack (sizeOf w) (elementBits w)))) in
+    subst (λ (t : List ℕ). ReadsBack w t held room) b
+    (reads-back w types (s .0) (fits-are w (s .1)) (s .2) held h room r)
 
 pub written-comes-back : WrittenComesBack
 written-comes-back w out n types e held h map room table =
-    rw e (comes-back w (take n (outAfter w out (Done n))) held map table h (written-reads-back w out n types e held h (length map) room))
+    rw e (comes-back w (take n (outAfter w out (Done n))) held map table h
+    (written-reads-back w out n types e held h (length map) room))
 
 pub bytes-behind-stay : BytesBehindStay
 bytes-behind-stay w out n e =

@@ -27,23 +27,27 @@ use Rattle.element.specs.Mux.{kindU, kindC, kindP, kindO, kindA, usable, audioM
 use Rattle.element.specs.Reply.{answer}
 use Rattle.writer.specs.declared.Written.{Written}
 use Rattle.writer.specs.declared.Written.the-variants.{Done, Refused}
-use Rattle.writer.specs.Written.{Piece, piece, bitsIn, itemsAt, sumOf, subframePieces, otherPieces, configPieces, Sent, contentPieces, alignment, pieces, elementBits, sizeOf}
+use Rattle.writer.specs.Written.{Piece, piece, bitsIn, itemsAt, sumOf, subframePieces, otherPieces, configPieces}
+use Rattle.writer.specs.Written.{Sent, contentPieces, alignment, pieces, elementBits, sizeOf}
 use Rattle.writer.specs.Write.{slotsFit, otherBytes, fits, writtenOf}
 use Rattle.writer.specs.Sizes.{lengthBytes, frontBits}
 use Rattle.writer.specs.Claims.{widths, Typed, ReadsBack}
 use Rattle.writer.proofs.Pieces.{bits-append, Spelt}
 use Rattle.writer.proofs.TripElement.{lastPieces, held-trip, sent-trip}
-use Rattle.writer.proofs.Contents.{keptBits, keptWidths, contents-kept, widths-kept, kept-append, kept-widths-append, slots-kept, slots-widths, slots-none}
+use Rattle.writer.proofs.Contents.{keptBits, keptWidths, contents-kept, widths-kept, kept-append}
+use Rattle.writer.proofs.Contents.{kept-widths-append, slots-kept, slots-widths, slots-none}
 use Rattle.writer.proofs.Lengths.{slots-length, other-length}
 
 -- ---- what an answer says
 
-pub cond-says : {A : Type 0} (P : A → Type 0) (b : Bool) (x y : A) → (b ≡ true → P x) → (b ≡ false → P y) → P (cond b x y)
+pub cond-says : {A : Type 0} (P : A → Type 0) (b : Bool) (x y : A) → (b ≡ true → P x) → (b ≡ false → P y)
+    → P (cond b x y)
 cond-says P true x y f g = f refl
 cond-says P false x y f g = g refl
 
 abbrev pub Says : Sent → ℕ → Written → Type 0
-Says w room (Done n) = (validOf (w .config) ≡ true) × (fits w ≡ true) × (sizeOf w ≤ 8191) × (sizeOf w ≤ room) × (n ≡ sizeOf w)
+Says w room (Done n) =
+    (validOf (w .config) ≡ true) × (fits w ≡ true) × (sizeOf w ≤ 8191) × (sizeOf w ≤ room) × (n ≡ sizeOf w)
 Says w room (Refused x) = Unit {0}
 
 pub written-says : (w : Sent) (room : ℕ) → Says w room (writtenOf w room)
@@ -51,7 +55,8 @@ written-says w room =
     cond-says (Says w room) (validOf (w .config)) _ _
     (λ v. cond-says (Says w room) (fits w) _ _
     (λ f. cond-says (Says w room) (ltb 8191 (sizeOf w)) _ _ (λ _. tt)
-    (λ m. cond-says (Says w room) (ltb room (sizeOf w)) _ _ (λ _. tt) (λ r. (v, f, ltb-false 8191 (sizeOf w) m, ltb-false room (sizeOf w) r, refl))))
+    (λ m. cond-says (Says w room) (ltb room (sizeOf w)) _ _ (λ _. tt)
+    (λ r. (v, f, ltb-false 8191 (sizeOf w) m, ltb-false room (sizeOf w) r, refl))))
     (λ _. tt))
     (λ _. tt)
 
@@ -66,7 +71,9 @@ pub fits-are : (w : Sent) → fits w ≡ true → Fits w
 fits-are w h =
     let a = both (eqb (length (w .lengths)) ((w .config .subframes + 1) * length (streamsOf (w .config)))) _ h in
     let b = both (slotsFit (w .config .subframes + 1) (streamsOf (w .config)) (w .lengths)) _ (a .1) in
-    let c = both (eqb (length (w .payload)) (sumOf (length (w .lengths)) (w .lengths))) (eqb (length (w .other)) (otherBytes (w .config))) (b .1) in
+    let c =
+    both (eqb (length (w .payload)) (sumOf (length (w .lengths)) (w .lengths)))
+    (eqb (length (w .other)) (otherBytes (w .config))) (b .1) in
     record {
       number = eqb-true _ _ (a .0);
       slots = b .0;
@@ -102,19 +109,32 @@ module _ (w : Sent) (f : Fits w) where
 
   -- up to other data
   pub content-length : length (bitsIn (contentPieces w))
-      ≡ length (frontBits (w .send) (w .config)) + (8 * lengthBytes (w .config .subframes + 1) (streamsOf (w .config)) (w .lengths) + 8 * length (w .payload)) + cond (eqb (w .config .other) 1) (w .config .bits) 0
+      ≡ length (frontBits (w .send) (w .config))
+      + (8 * lengthBytes (w .config .subframes + 1) (streamsOf (w .config)) (w .lengths) + 8 * length (w .payload))
+      + cond (eqb (w .config .other) 1) (w .config .bits) 0
   unfolding bitsIn
   content-length =
-      let s = slots-length (w .config .subframes + 1) (streamsOf (w .config)) (w .lengths) (w .payload) (omega (arith, whole-is)) in
+      let s =
+      slots-length (w .config .subframes + 1) (streamsOf (w .config)) (w .lengths) (w .payload)
+      (omega (arith, whole-is)) in
       let o = other-length (eqb (w .config .other) 1) (w .config .bits) (w .other) enough-is in
-      simp (bits-append (configPieces (w .send) (w .config)) (slotsIn ++ otherPieces (w .config) (w .other)), bits-append slotsIn (otherPieces (w .config) (w .other)), length-append, length-bitsOf)
+      simp (
+        bits-append (configPieces (w .send) (w .config)) (slotsIn
+            ++ otherPieces (w .config) (w .other)),
+        bits-append slotsIn
+            (otherPieces (w .config) (w .other)),
+        length-append,
+        length-bitsOf,
+      )
       (omega (arith, s, o, whole-is))
 
   -- with alignment
-  pub bits-length : length (elementBits w) ≡ length (bitsIn (contentPieces w)) + (8 - length (bitsIn (contentPieces w)) % 8) % 8
+  pub bits-length : length (elementBits w)
+      ≡ length (bitsIn (contentPieces w)) + (8 - length (bitsIn (contentPieces w)) % 8) % 8
   bits-length =
       let n = length (bitsIn (contentPieces w)) in
-      ap length (bits-append (contentPieces w) (alignment n ∷ [])) ∙ length-append (bitsIn (contentPieces w)) (bitsIn (alignment n ∷ [])) ∙ rw (align-length n)
+      ap length (bits-append (contentPieces w) (alignment n ∷ []))
+      ∙ length-append (bitsIn (contentPieces w)) (bitsIn (alignment n ∷ [])) ∙ rw (align-length n)
 
   pub whole-bytes : length (elementBits w) ≡ 8 * sizeOf w
   whole-bytes = omega (arith, bits-length)
@@ -123,7 +143,8 @@ module _ (w : Sent) (f : Fits w) where
   few-is h = omega (arith, whole-is, content-length, bits-length)
 
   pub other-few : sizeOf w ≤ 8191 → length (w .other) ≤ 8191
-  other-few h = other-bound (eqb (w .config .other) 1) (w .config .bits) (f .enough) (omega (arith, content-length, bits-length))
+  other-few h =
+      other-bound (eqb (w .config .other) 1) (w .config .bits) (f .enough) (omega (arith, content-length, bits-length))
 
   pub some-is : 1 ≤ sizeOf w
   some-is = omega (arith, front-some (w .send) (w .config), content-length, bits-length)
@@ -131,17 +152,23 @@ module _ (w : Sent) (f : Fits w) where
 -- ---- it reads back
 
 -- the alignment stands behind all else
-behind-one : (p : Piece) (ss os : List Piece) → (p ∷ (ss ++ os)) ++ (alignment (length (bitsIn (p ∷ (ss ++ os)))) ∷ []) ≡ p ∷ lastPieces ss os (0 + length (p .bits))
+behind-one : (p : Piece) (ss os : List Piece)
+    → (p ∷ (ss ++ os)) ++ (alignment (length (bitsIn (p ∷ (ss ++ os)))) ∷ [])
+    ≡ p ∷ lastPieces ss os (0 + length (p .bits))
 unfolding bitsIn
 behind-one p ss os =
-    let n : length (p .bits ++ bitsIn (ss ++ os)) ≡ 0 + length (p .bits) + length (bitsIn ss) + length (bitsIn os) = simp (bits-append ss os, length-append, length-append) (omega arith) in
+    let n : length (p .bits ++ bitsIn (ss ++ os))
+    ≡ 0 + length (p .bits) + length (bitsIn ss) + length (bitsIn os) =
+    simp (bits-append ss os, length-append, length-append) (omega arith) in
     rw (n, append-assoc ss os)
 
 behind-two : (p q : Piece) (ss os : List Piece)
-    → (p ∷ q ∷ (ss ++ os)) ++ (alignment (length (bitsIn (p ∷ q ∷ (ss ++ os)))) ∷ []) ≡ p ∷ q ∷ lastPieces ss os (0 + length (p .bits) + length (q .bits))
+    → (p ∷ q ∷ (ss ++ os)) ++ (alignment (length (bitsIn (p ∷ q ∷ (ss ++ os)))) ∷ [])
+    ≡ p ∷ q ∷ lastPieces ss os (0 + length (p .bits) + length (q .bits))
 unfolding bitsIn
 behind-two p q ss os =
-    let n : length (p .bits ++ (q .bits ++ bitsIn (ss ++ os))) ≡ 0 + length (p .bits) + length (q .bits) + length (bitsIn ss) + length (bitsIn os) =
+    let n : length (p .bits ++ (q .bits ++ bitsIn (ss ++ os)))
+    ≡ 0 + length (p .bits) + length (q .bits) + length (bitsIn ss) + length (bitsIn os) =
     simp (bits-append ss os, length-append, length-append, length-append) (omega arith) in
     rw (n, append-assoc ss os)
 
@@ -154,11 +181,13 @@ module _ (r : Record) (ns payload other : List ℕ) (types : Typed r) (valid : v
   sentWith b = record { config = r; send = b; lengths = ns; payload = payload; other = other }
 
   -- with the configuration sent, or the same held
-  spelt : (b : Bool) (f : Fits (sentWith b)) → sizeOf (sentWith b) ≤ 8191 → (held : Held) → (b ≡ true) ⊎ (held ≡ record { present = true; config = r })
+  spelt : (b : Bool) (f : Fits (sentWith b)) → sizeOf (sentWith b) ≤ 8191 → (held : Held)
+      → (b ≡ true) ⊎ (held ≡ record { present = true; config = r })
       → Spelt 0 (audioMuxElement held) (pieces (sentWith b)) (record { sent = b; config = r })
   spelt true f m held h =
       let w = sentWith true in
-      rw (behind-two (piece fields kindU 0 (bitsOf 1 0)) (piece fields kindC 0 (muxBits r)) (slotsIn w f) (otherPieces r other))
+      rw (behind-two (piece fields kindU 0 (bitsOf 1 0)) (piece fields kindC 0 (muxBits r)) (slotsIn w f)
+      (otherPieces r other))
       (sent-trip r ns payload other (f .slots) (few-is w f m) (omega (arith, whole-is w f)) (enough-is w f) held
       (λ at. record-reads-back r at (types .0) (types .1) (types .2) (types .3) valid))
   spelt false f m held h =
@@ -166,7 +195,8 @@ module _ (r : Record) (ns payload other : List ℕ) (types : Typed r) (valid : v
       let e : held ≡ record { present = true; config = r } = not-sent h in
       let u : usable held ≡ true = rw e valid in
       rw (behind-one (piece fields kindU 0 (bitsOf 1 1)) (slotsIn w f) (otherPieces r other))
-      (held-trip r ns payload other (f .slots) (few-is w f m) (omega (arith, whole-is w f)) (enough-is w f) held u (ap (λ (h : Held). h .config) e))
+      (held-trip r ns payload other (f .slots) (few-is w f m) (omega (arith, whole-is w f)) (enough-is w f) held u
+      (ap (λ (h : Held). h .config) e))
 
 -- ---- the payload and other data stand in it
 
@@ -182,12 +212,14 @@ module _ (w : Sent) (f : Fits w) where
   config-widths true = refl
   config-widths false = refl
 
-  other-kept : (kind : ℕ) → eqb kindO kind ≡ false → (b : Bool) (x : List Bool) → keptBits kind (cond b (piece (passed closed) kindO 0 x ∷ []) []) ≡ []
+  other-kept : (kind : ℕ) → eqb kindO kind ≡ false → (b : Bool) (x : List Bool)
+      → keptBits kind (cond b (piece (passed closed) kindO 0 x ∷ []) []) ≡ []
   unfolding keptBits
   other-kept kind e true x = rw e
   other-kept kind e false x = refl
 
-  other-kept-other : (b : Bool) (x : List Bool) → keptBits kindO (cond b (piece (passed closed) kindO 0 x ∷ []) []) ≡ cond b x []
+  other-kept-other : (b : Bool) (x : List Bool)
+      → keptBits kindO (cond b (piece (passed closed) kindO 0 x ∷ []) []) ≡ cond b x []
   unfolding keptBits
   other-kept-other true x = append-nil x
   other-kept-other false x = refl
@@ -205,7 +237,8 @@ module _ (w : Sent) (f : Fits w) where
   payloads-kept =
       let k = slots-kept (streamsOf (w .config)) (w .config .subframes + 1) (w .lengths) (w .payload) in
       rw (
-        kept-append kindP (configPieces (w .send) (w .config) ++ (slotsIn w f ++ othersIn)) (alignment (length (bitsIn (contentPieces w))) ∷ []),
+        kept-append kindP (configPieces (w .send) (w .config)
+            ++ (slotsIn w f ++ othersIn)) (alignment (length (bitsIn (contentPieces w))) ∷ []),
         kept-append kindP (configPieces (w .send) (w .config)) (slotsIn w f ++ othersIn),
         kept-append kindP (slotsIn w f) othersIn,
         config-kept kindP refl (w .send),
@@ -217,12 +250,14 @@ module _ (w : Sent) (f : Fits w) where
         append-nil,
       )
 
-  others-kept : keptBits kindO (pieces w) ≡ cond (eqb (w .config .other) 1) (take (w .config .bits) (unpack (w .other))) []
+  others-kept : keptBits kindO (pieces w)
+      ≡ cond (eqb (w .config .other) 1) (take (w .config .bits) (unpack (w .other))) []
   unfolding keptBits othersIn
   others-kept =
       let k = slots-none (streamsOf (w .config)) kindO refl refl (w .config .subframes + 1) (w .lengths) (w .payload) in
       rw (
-        kept-append kindO (configPieces (w .send) (w .config) ++ (slotsIn w f ++ othersIn)) (alignment (length (bitsIn (contentPieces w))) ∷ []),
+        kept-append kindO (configPieces (w .send) (w .config)
+            ++ (slotsIn w f ++ othersIn)) (alignment (length (bitsIn (contentPieces w))) ∷ []),
         kept-append kindO (configPieces (w .send) (w .config)) (slotsIn w f ++ othersIn),
         kept-append kindO (slotsIn w f) othersIn,
         config-kept kindO refl (w .send),
@@ -236,7 +271,8 @@ module _ (w : Sent) (f : Fits w) where
   zeros-kept =
       let k = slots-none (streamsOf (w .config)) kindA refl refl (w .config .subframes + 1) (w .lengths) (w .payload) in
       rw (
-        kept-append kindA (configPieces (w .send) (w .config) ++ (slotsIn w f ++ othersIn)) (alignment (length (bitsIn (contentPieces w))) ∷ []),
+        kept-append kindA (configPieces (w .send) (w .config)
+            ++ (slotsIn w f ++ othersIn)) (alignment (length (bitsIn (contentPieces w))) ∷ []),
         kept-append kindA (configPieces (w .send) (w .config)) (slotsIn w f ++ othersIn),
         kept-append kindA (slotsIn w f) othersIn,
         config-kept kindA refl (w .send),
@@ -248,9 +284,12 @@ module _ (w : Sent) (f : Fits w) where
   widths-are : keptWidths kindP (pieces w) ≡ widths (length (w .lengths)) (w .lengths)
   unfolding keptWidths othersIn
   widths-are =
-      let k = slots-widths (streamsOf (w .config)) (w .config .subframes + 1) (w .lengths) (w .payload) (omega (arith, whole-is w f)) in
+      let k =
+      slots-widths (streamsOf (w .config)) (w .config .subframes + 1) (w .lengths) (w .payload)
+      (omega (arith, whole-is w f)) in
       rw (
-        kept-widths-append kindP (configPieces (w .send) (w .config) ++ (slotsIn w f ++ othersIn)) (alignment (length (bitsIn (contentPieces w))) ∷ []),
+        kept-widths-append kindP (configPieces (w .send) (w .config)
+            ++ (slotsIn w f ++ othersIn)) (alignment (length (bitsIn (contentPieces w))) ∷ []),
         kept-widths-append kindP (configPieces (w .send) (w .config)) (slotsIn w f ++ othersIn),
         kept-widths-append kindP (slotsIn w f) othersIn,
         config-widths (w .send),
@@ -268,7 +307,8 @@ accepted-is (accepted a′ its′ n) a its h = rw (h .0, h .1)
 accepted-is (rejected r its′) a its h = absurd h
 
 -- no refusal 1 or 2
-answer-is : (s : List ℕ) (held : Held) (room : ℕ) → 4368 ≤ room → 1 ≤ length s → length s ≤ 8191 → answer s held room ≡ read s (audioMuxElement held)
+answer-is : (s : List ℕ) (held : Held) (room : ℕ) → 4368 ≤ room → 1 ≤ length s → length s ≤ 8191
+    → answer s held room ≡ read s (audioMuxElement held)
 unfolding answer
 answer-is s held room r h k =
     let n : length s ≡ 0 → ⊥ = λ e. omega arith in
@@ -278,19 +318,24 @@ no-number : (k : ℕ) → number 0 (bitsOf k 0) ≡ 0
 no-number k = number-bitsOf 0 k 0 ∙ omega (arith, mod-eq-of-lt (pow-pos k))
 
 pub reads-back : (w : Sent) → Typed (w .config) → validOf (w .config) ≡ true → Fits w → sizeOf w ≤ 8191
-    → (held : Held) → (w .send ≡ true) ⊎ (held ≡ record { present = true; config = w .config }) → (room : ℕ) → 4368 ≤ room
+    → (held : Held) → (w .send ≡ true) ⊎ (held ≡ record { present = true; config = w .config }) → (room : ℕ)
+    → 4368 ≤ room
     → ReadsBack w (pack (sizeOf w) (elementBits w)) held room
 reads-back w types valid f m held h room r =
     let n = sizeOf w in
     let s = pack n (elementBits w) in
     let l : length s ≡ n = length-pack n (elementBits w) in
     let p = spelt (w .config) (w .lengths) (w .payload) (w .other) types valid (w .send) f m held h in
-    let a = packed-reads (audioMuxElement held) (elementBits w) (record { sent = w .send; config = w .config }) (itemsAt 0 (pieces w)) n (p .reads) (whole-bytes w f) in
+    let a =
+    packed-reads (audioMuxElement held) (elementBits w) (record { sent = w .send; config = w .config })
+    (itemsAt 0 (pieces w)) n (p .reads) (whole-bytes w f) in
     let u : unpack s ≡ elementBits w = unpack-pack n (elementBits w) (whole-bytes w f) in
     record {
       items = itemsAt 0 (pieces w);
       count = countOf (read s (audioMuxElement held));
-      accepts = answer-is s held room r (omega (arith, l, some-is w f)) (omega (arith, l)) ∙ accepted-is (read s (audioMuxElement held)) _ _ a;
+      accepts =
+          answer-is s held room r (omega (arith, l, some-is w f)) (omega (arith, l))
+          ∙ accepted-is (read s (audioMuxElement held)) _ _ a;
       shows = record {
         slots = widths-kept kindP (pieces w) 0 ∙ widths-are w f;
         payloads = contents-kept kindP s (pieces w) [] u ∙ payloads-kept w f;

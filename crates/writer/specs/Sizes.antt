@@ -30,11 +30,13 @@ abbrev pub measureOf : List Stream → List ℕ → Measure
 measureOf ss ns = record { fits = rowFits ss ns; lengths = rowBytes ss ns; payload = sumOf (length ss) ns }
 
 abbrev pub measureAll : ℕ → List Stream → List ℕ → Measure
-measureAll n ss ns = record { fits = slotsFit n ss ns; lengths = lengthBytes n ss ns; payload = sumOf (n * length ss) ns }
+measureAll n ss ns =
+    record { fits = slotsFit n ss ns; lengths = lengthBytes n ss ns; payload = sumOf (n * length ss) ns }
 
 -- the flag and the configuration if sent; other data if present
 abbrev pub frontBits : Bool → Record → List Bool
 frontBits send r = bitsOf 1 (cond send 0 1) ++ bitsIn (configPieces send r)
 
 abbrev pub otherBits : ℕ → ℕ → List ℕ → List Bool
-otherBits present bits other = bitsIn (cond (eqb present 1) (piece (passed closed) kindO 0 (take bits (unpack other)) ∷ []) [])
+otherBits present bits other =
+    bitsIn (cond (eqb present 1) (piece (passed closed) kindO 0 (take bits (unpack other)) ∷ []) [])

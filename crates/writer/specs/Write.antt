@@ -16,7 +16,7 @@ use Rattle.writer.specs.Written.{Sent, sumOf, elementBits, sizeOf}
 
 -- a fixed slot has its own size
 abbrev pub slotFits : Stream → ℕ → Bool
-slotFits s n = eqb (s .kind) 0 || eqb n (s .slot + 20)
+slotFits s n = eqb (s .kind) 0 || eqb n (s .fixed + 20)
 
 unfoldable pub rowFits : List Stream → List ℕ → Bool
 rowFits [] ns = true
@@ -36,14 +36,16 @@ abbrev pub fits : Sent → Bool
 fits w =
     eqb (length (w .lengths)) ((w .config .subframes + 1) * length (streamsOf (w .config)))
     && (slotsFit (w .config .subframes + 1) (streamsOf (w .config)) (w .lengths)
-    && (eqb (length (w .payload)) (sumOf (length (w .lengths)) (w .lengths)) && eqb (length (w .other)) (otherBytes (w .config))))
+    && (eqb (length (w .payload)) (sumOf (length (w .lengths)) (w .lengths))
+    && eqb (length (w .other)) (otherBytes (w .config))))
 
 -- 16, 17, 18, 19, or the bytes written
 abbrev pub writtenOf : Sent → ℕ → Written
 writtenOf w room =
     cond (validOf (w .config))
     (cond (fits w)
-    (cond (ltb 8191 (sizeOf w)) (Refused (unread 18)) (cond (ltb room (sizeOf w)) (Refused (unread 19)) (Done (sizeOf w))))
+    (cond (ltb 8191 (sizeOf w)) (Refused (unread 18))
+    (cond (ltb room (sizeOf w)) (Refused (unread 19)) (Done (sizeOf w))))
     (Refused (unread 17)))
     (Refused (unread 16))
 

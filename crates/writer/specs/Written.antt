@@ -51,7 +51,8 @@ lengthsBits (s ∷ ss) ns = slotBits (s .kind) (getD ns 0 0) ⧺ lengthsBits ss 
 unfoldable pub payloadPieces : ℕ → ℕ → List ℕ → List ℕ → List Piece
 payloadPieces i zero ns payload = []
 payloadPieces i (suc k) ns payload =
-    piece (passed closed) kindP i (unpack (take (getD ns 0 0) payload)) ∷ payloadPieces (i + 1) k (drop 1 ns) (drop (getD ns 0 0) payload)
+    piece (passed closed) kindP i (unpack (take (getD ns 0 0) payload))
+    ∷ payloadPieces (i + 1) k (drop 1 ns) (drop (getD ns 0 0) payload)
 
 -- the sum of the first k lengths
 unfoldable pub sumOf : ℕ → List ℕ → ℕ
@@ -81,14 +82,16 @@ pub record Sent : Type 0 where
   pub other : List ℕ
 
 abbrev pub toSend : Record → Bool → List ℕ → List ℕ → List ℕ → Sent
-toSend r send lengths payload other = record { config = r; send = send; lengths = lengths; payload = payload; other = other }
+toSend r send lengths payload other =
+    record { config = r; send = send; lengths = lengths; payload = payload; other = other }
 
 -- up to other data
 abbrev pub contentPieces : Sent → List Piece
 contentPieces w =
     piece fields kindU 0 (bitsOf 1 (cond (w .send) 0 1))
     ∷ (configPieces (w .send) (w .config)
-    ++ (subframePieces (w .config .subframes + 1) (streamsOf (w .config)) (w .lengths) (w .payload) ++ otherPieces (w .config) (w .other)))
+    ++ (subframePieces (w .config .subframes + 1) (streamsOf (w .config)) (w .lengths) (w .payload)
+    ++ otherPieces (w .config) (w .other)))
 
 -- zeros up to a byte
 abbrev pub alignment : ℕ → Piece

@@ -10,7 +10,8 @@ ghost use Rattle.kernel.specs.Bits.{bitsOf, Put};
 ghost use Rattle.records.specs.Table.{streamsIn};
 ghost use Rattle.records.specs.Valid.{validOf};
 ghost use Rattle.element.specs.Mux.{streamsOf};
-ghost use Rattle.writer.specs.Written.{bitsIn, toSend, elementBits, sizeOf, lengthBits, slotBits, lengthsBits, sumOf, subframePieces};
+ghost use Rattle.writer.specs.Written.{bitsIn, toSend, elementBits, sizeOf, lengthBits, slotBits, lengthsBits};
+ghost use Rattle.writer.specs.Written.{sumOf, subframePieces};
 ghost use Rattle.writer.specs.Write.{fits};
 ghost use Rattle.writer.specs.Promises.{WritePromise};
 ghost use Rattle.writer.specs.Sizes.{lengthBytes, frontBits, otherBits};
@@ -74,8 +75,11 @@ fn put_lengths(
     ns: &[u32],
     from: usize,
 ) -> usize
-    requires { ⌜ (at ≤ 700000) × (count ≤ 16) × (from + count ≤ length (now ns)) × (sumOf count (drop from (now ns)) ≤ 8191) ⌝ }
-    ensures { λ r. ⌜ (r ≤ at + 4224) × Put (now (out .entry)) at (lengthsBits (take count streams) (drop from (now (ns .entry)))) (now (out .exit)) r ⌝ }
+    requires { ⌜ (at ≤ 700000) × (count ≤ 16) × (from + count ≤ length (now ns))
+        × (sumOf count (drop from (now ns)) ≤ 8191) ⌝ }
+    ensures { λ r. ⌜ (r ≤ at + 4224)
+        × Put (now (out .entry)) at (lengthsBits (take count streams) (drop from (now (ns .entry))))
+        (now (out .exit)) r ⌝ }
 {
     let mut to = at;
     let mut i: usize = 0;
@@ -97,8 +101,11 @@ fn put_subframes(
     ns: &[u32],
     payload: &[u8],
 ) -> usize
-    requires { ⌜ (at ≤ 100000) × (count ≤ 16) × (n ≤ 64) × (length (now ns) ≡ n * count) × (sumOf (n * count) (now ns) ≡ length (now payload)) × (length (now payload) ≤ 8191) ⌝ }
-    ensures { λ r. ⌜ (r ≤ at + 335864) × Put (now (out .entry)) at (bitsIn (subframePieces n (take count streams) (now (ns .entry)) (now (payload .entry)))) (now (out .exit)) r ⌝ }
+    requires { ⌜ (at ≤ 100000) × (count ≤ 16) × (n ≤ 64) × (length (now ns) ≡ n * count)
+        × (sumOf (n * count) (now ns) ≡ length (now payload)) × (length (now payload) ≤ 8191) ⌝ }
+    ensures { λ r. ⌜ (r ≤ at + 335864)
+        × Put (now (out .entry)) at (bitsIn
+        (subframePieces n (take count streams) (now (ns .entry)) (now (payload .entry)))) (now (out .exit)) r ⌝ }
 {
     let mut to = at;
     let mut from: usize = 0;
@@ -129,8 +136,10 @@ fn put_front(out: &mut [u8], send: bool, r: Record) -> usize
 }
 
 fn put_other(out: &mut [u8], at: usize, present: u32, bits: u32, other: &[u8]) -> usize
-    requires { ⌜ (at ≤ 400000) × (length (now other) ≤ 8191) × (eqb present 1 ≡ true → bits ≤ 8 * length (now other)) ⌝ }
-    ensures { λ r. ⌜ (r ≤ at + 65528) × Put (now (out .entry)) at (otherBits present bits (now (other .entry))) (now (out .exit)) r ⌝ }
+    requires { ⌜ (at ≤ 400000) × (length (now other) ≤ 8191)
+        × (eqb present 1 ≡ true → bits ≤ 8 * length (now other)) ⌝ }
+    ensures { λ r. ⌜ (r ≤ at + 65528)
+        × Put (now (out .entry)) at (otherBits present bits (now (other .entry))) (now (out .exit)) r ⌝ }
 {
     if present == 1 {
         return put_some(out, at, other, bits as usize);
@@ -155,8 +164,11 @@ fn put_element(
     payload: &[u8],
     other: &[u8],
 ) -> usize
-    requires { ⌜ (validOf r ≡ true) × (fits (toSend r send (now ns) (now payload) (now other)) ≡ true) × (sizeOf (toSend r send (now ns) (now payload) (now other)) ≤ 8191) ⌝ }
-    ensures { λ x. ⌜ Put (now (out .entry)) 0 (elementBits (toSend r send (now (ns .entry)) (now (payload .entry)) (now (other .entry)))) (now (out .exit)) x ⌝ }
+    requires { ⌜ (validOf r ≡ true) × (fits (toSend r send (now ns) (now payload) (now other)) ≡ true)
+        × (sizeOf (toSend r send (now ns) (now payload) (now other)) ≤ 8191) ⌝ }
+    ensures { λ x. ⌜ Put (now (out .entry)) 0
+        (elementBits (toSend r send (now (ns .entry)) (now (payload .entry)) (now (other .entry))))
+        (now (out .exit)) x ⌝ }
 {
     let layers = r.layers;
     let streams = r.streams;
@@ -175,9 +187,11 @@ fn put_element(
     put_alignment(out, c)
 }
 
-// The bytes of the element, of which the lengths have so many. The front is counted by putting it, over bytes that nobody reads.
+// The bytes of the element, of which the lengths have so many. The front is counted by putting it, over bytes that
+// nobody reads.
 fn size_of(scratch: &mut [u8], r: Record, send: bool, lengths: usize, payload: usize) -> usize
-    requires { ⌜ (r .programs ≤ 15) × (streamsIn (r .layers) (r .programs) 16 ≤ 16) × (lengths ≤ 17247242240) × (payload ≤ 4398046511104) ⌝ }
+    requires { ⌜ (r .programs ≤ 15) × (streamsIn (r .layers) (r .programs) 16 ≤ 16) × (lengths ≤ 17247242240)
+        × (payload ≤ 4398046511104) ⌝ }
     ensures { λ x. ⌜ x ≡ (length (frontBits send r) + (8 * lengths + 8 * payload) + r .bits + 7) / 8 ⌝ }
 {
     (put_front(scratch, send, r) + (8 * lengths + 8 * payload) + r.bits as usize + 7) / 8
@@ -194,8 +208,11 @@ fn write_fitting(
     other: &[u8],
     out: &mut [u8],
 ) -> Written
-    requires { ⌜ (validOf r ≡ true) × (fits (toSend r send (now ns) (now payload) (now other)) ≡ true) × (lengths ≡ lengthBytes (r .subframes + 1) (streamsOf r) (now ns)) × (lengths ≤ 17247242240) × (length (now payload) ≤ 4398046511104) ⌝ }
-    ensures { λ x. ⌜ WritePromise (toSend r send (now (ns .entry)) (now (payload .entry)) (now (other .entry))) (now (out .entry)) x (now (out .exit)) ⌝ }
+    requires { ⌜ (validOf r ≡ true) × (fits (toSend r send (now ns) (now payload) (now other)) ≡ true)
+        × (lengths ≡ lengthBytes (r .subframes + 1) (streamsOf r) (now ns)) × (lengths ≤ 17247242240)
+        × (length (now payload) ≤ 4398046511104) ⌝ }
+    ensures { λ x. ⌜ WritePromise (toSend r send (now (ns .entry)) (now (payload .entry)) (now (other .entry)))
+        (now (out .entry)) x (now (out .exit)) ⌝ }
 {
     let size = size_of(scratch, r, send, lengths, payload.len());
     if size > 8191 {
@@ -218,7 +235,8 @@ fn write_valid(
     out: &mut [u8],
 ) -> Written
     requires { ⌜ validOf r ≡ true ⌝ }
-    ensures { λ x. ⌜ WritePromise (toSend r send (now (ns .entry)) (now (payload .entry)) (now (other .entry))) (now (out .entry)) x (now (out .exit)) ⌝ }
+    ensures { λ x. ⌜ WritePromise (toSend r send (now (ns .entry)) (now (payload .entry)) (now (other .entry)))
+        (now (out .entry)) x (now (out .exit)) ⌝ }
 {
     let layers = r.layers;
     let streams = r.streams;
@@ -235,7 +253,8 @@ fn write_valid(
     Written::Refused(unread(17))
 }
 
-// One element: a record, whether to send it, the slots' lengths in payload order, payload, and other data packed from the top bit.
+// One element: a record, whether to send it, the slots' lengths in payload order, payload, and other data packed from
+// the top bit.
 pub fn write(
     r: Record,
     send: bool,
@@ -244,7 +263,8 @@ pub fn write(
     other: &[u8],
     out: &mut [u8],
 ) -> Written
-    ensures { λ x. ⌜ WritePromise (toSend r send (now (lengths .entry)) (now (payload .entry)) (now (other .entry))) (now (out .entry)) x (now (out .exit)) ⌝ }
+    ensures { λ x. ⌜ WritePromise (toSend r send (now (lengths .entry)) (now (payload .entry)) (now (other .entry)))
+        (now (out .entry)) x (now (out .exit)) ⌝ }
 {
     if valid(r) {
         return write_valid(r, send, lengths, payload, other, out);

@@ -11,7 +11,7 @@ use records::Stream;
 fn slot_fits(s: Stream, n: u32) -> bool
     ensures { λ r. ⌜ r ≡ slotFits s n ⌝ }
 {
-    (s.kind == 0) | (n as usize == s.slot as usize + 20)
+    (s.kind == 0) | (n as usize == s.fixed as usize + 20)
 }
 
 fn slot_bytes(s: Stream, n: u32) -> usize

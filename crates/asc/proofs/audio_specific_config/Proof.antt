@@ -1,148 +1,108 @@
 -- `asc::audio_specific_config` meets its contract.
-use mathlib.Core.Path.{ap, sym, _∙_}
+use mathlib.Core.Path.{refl, ap, sym, _∙_}
 use native.Mathlib.Omega.{arith}
 use denote.Ref.{now}
 use borrow.Author.Needs.{needs}
 use Rattle.kernel.specs.Answer.{refusal, toldFetched, whyFetched}
-use Rattle.kernel.specs.Reading.{Sound}
-use Rattle.kernel.proofs.Chain.{met, got, so, yes-way, no-way, on, off, steady}
+use Rattle.kernel.proofs.Chain.{met, got}
+use Rattle.kernel.proofs.Along.{Along, start, then, when, unless, stops, ends}
 use Rattle.asc.specs.Asc.{audioSpecificConfig}
-use Rattle.asc.specs.Answer.{toldRated, whyRated}
+use Rattle.asc.specs.Answer.{toldRated}
 use Rattle.asc.proofs.audio_specific_config.Statement.{statement}
 use Rattle.asc.proofs.audio_specific_config.Tie as tie
 
-kept : (h : tie.After-four) → let a = h .before .before .before .before .before .before .before .before .before .before .before .before .args in
-    Sound (now (a .el)) (h .four .given .0 .1 .0 .at) (h .four .given .0 .1 .0 .read)
-kept h =
-    let g = h .before .before .before .before in
-    let f = g .before .before .before .before in
-    steady (got toldFetched _ _ _ _ (h .before .before .channels-of .ensures) (h .four .given .1))
-    (steady (got toldRated _ _ _ _ (g .before .before .frequency-of .ensures) (g .freq .given .1))
-    (steady (got toldFetched _ _ _ _ (f .before .before .object-type .ensures) (f .number .given .1)) (omega arith)))
+abbrev From : tie.Start → Type 0
+From c = let a = c .args in Along (now (a .el)) (audioSpecificConfig (a .win)) (a .c .at) (a .c .fields)
 
-object-type-requires : tie.Need-object-type-requires
-object-type-requires c κs = search needs
+abbrev typed : (c : tie.After-number) → From (c .before .before .before .before)
+unfolding audioSpecificConfig
+typed c = then start _ refl (got toldFetched _ _ _ _ (c .before .before .object-type .ensures) (c .number .given .1))
 
-enum-known-number : tie.Need-enum-known-number
-enum-known-number c = search needs
+abbrev rated : (c : tie.After-r) → From (c .before .before .before .before .before .before .before .before)
+unfolding audioSpecificConfig
+rated c =
+    then (typed (c .before .before .before .before)) _ refl
+    (got toldRated _ _ _ _ (c .before .before .frequency-of .ensures) (c .r .given .1))
 
-enum-told : tie.Need-enum-told
-enum-told c = search needs
-
-why-requires : tie.Need-why-requires
-why-requires c κs = search needs
+abbrev channelled : (c : tie.After-four)
+    → From (c .before .before .before .before .before .before .before .before .before .before .before .before)
+unfolding audioSpecificConfig
+channelled c =
+    then (rated (c .before .before .before .before)) _ refl
+    (got toldFetched _ _ _ _ (c .before .before .channels-of .ensures) (c .four .given .1))
 
 returns : tie.Need-returns
 unfolding audioSpecificConfig
 returns c =
     let q = c .before .enum-told .given .1 in
-    ap refusal (c .why .ensures ∙ ap whyFetched q) ∙ so (off _ (got toldFetched _ _ _ _ (c .before .before .before .object-type .ensures) q))
+    ap refusal (c .why .ensures ∙ ap whyFetched q)
+    ∙ stops start _ refl (got toldFetched _ _ _ _ (c .before .before .before .object-type .ensures) q)
 
 frequency-of-requires : tie.Need-frequency-of-requires
-frequency-of-requires c κs =
-    let f = c .before in
-    steady (got toldFetched _ _ _ _ (f .before .before .object-type .ensures) (f .number .given .1)) (omega arith)
-
-enum-known-freq : tie.Need-enum-known-freq
-enum-known-freq c = search needs
-
-enum-told-2 : tie.Need-enum-told-2
-enum-told-2 c = search needs
-
-why-rated-requires : tie.Need-why-rated-requires
-why-rated-requires c κs = search needs
+unfolding typed
+frequency-of-requires c κs = typed (c .before) .stands (omega arith)
 
 returns-2 : tie.Need-returns-2
 unfolding audioSpecificConfig
 returns-2 c =
-    let d = c .before in
-    let q = d .enum-told2 .given .1 in
-    let f = d .before .before .before .before in
-    ap refusal (c .why-rated .ensures ∙ ap whyRated q)
-    ∙ so (on _ (got toldFetched _ _ _ _ (f .before .before .object-type .ensures) (f .number .given .1))
-    (off _ (got toldRated _ _ _ _ (d .before .before .frequency-of .ensures) q)))
+    let x = c .before in
+    stops (typed (x .before .before .before .before)) _ refl
+    (got toldRated _ _ _ _ (x .before .before .frequency-of .ensures) (x .x .given .1))
 
 channels-of-requires : tie.Need-channels-of-requires
-channels-of-requires c κs =
-    let g = c .before in
-    let f = g .before .before .before .before in
-    steady (got toldRated _ _ _ _ (g .before .before .frequency-of .ensures) (g .freq .given .1))
-    (steady (got toldFetched _ _ _ _ (f .before .before .object-type .ensures) (f .number .given .1)) (omega arith))
-
-enum-known-four : tie.Need-enum-known-four
-enum-known-four c = search needs
-
-enum-told-3 : tie.Need-enum-told-3
-enum-told-3 c = search needs
-
-why-requires-2 : tie.Need-why-requires-2
-why-requires-2 c κs = search needs
+unfolding rated
+channels-of-requires c κs = rated (c .before) .stands (omega arith)
 
 returns-3 : tie.Need-returns-3
 unfolding audioSpecificConfig
 returns-3 c =
-    let d = c .before in
-    let q = d .enum-told3 .given .1 in
-    let g = d .before .before .before .before in
-    let f = g .before .before .before .before in
+    let x = c .before in
+    let q = x .enum-told2 .given .1 in
     ap refusal (c .why2 .ensures ∙ ap whyFetched q)
-    ∙ so (on _ (got toldFetched _ _ _ _ (f .before .before .object-type .ensures) (f .number .given .1))
-    (on _ (got toldRated _ _ _ _ (g .before .before .frequency-of .ensures) (g .freq .given .1))
-    (off _ (got toldFetched _ _ _ _ (d .before .before .channels-of .ensures) q))))
-
-is-core-requires : tie.Need-is-core-requires
-is-core-requires c κs = search needs
+    ∙ stops (rated (x .before .before .before .before)) _ refl
+    (got toldFetched _ _ _ _ (x .before .before .channels-of .ensures) q)
 
 alone-of-requires : tie.Need-alone-of-requires
-alone-of-requires c κs = kept (c .before .before .before)
+unfolding channelled
+alone-of-requires c κs = channelled (c .before .before .before) .stands (omega arith)
 
 returns-4 : tie.Need-returns-4
 unfolding audioSpecificConfig
 returns-4 c =
     let i = c .before in
-    let h = i .before .before .before in
-    let g = h .before .before .before .before in
-    let f = g .before .before .before .before in
-    so (on _ (got toldFetched _ _ _ _ (f .before .before .object-type .ensures) (f .number .given .1))
-    (on _ (got toldRated _ _ _ _ (g .before .before .frequency-of .ensures) (g .freq .given .1))
-    (on _ (got toldFetched _ _ _ _ (h .before .before .channels-of .ensures) (h .four .given .1))
-    (yes-way _ (sym (i .before .is-core .ensures) ∙ i .if1 .taken) (met _ _ _ _ (c .alone-of .ensures))))))
+    ends (when (channelled (i .before .before .before)) _ _ refl (sym (i .before .is-core .ensures)
+    ∙ i .if1 .taken)) refl (met _ _ _ _ (c .alone-of .ensures))
 
 under-front-requires : tie.Need-under-front-requires
-under-front-requires c κs = kept (c .before .before .before)
+unfolding channelled
+under-front-requires c κs = channelled (c .before .before .before) .stands (omega arith)
 
 returns-5 : tie.Need-returns-5
 unfolding audioSpecificConfig
 returns-5 c =
     let i = c .before in
-    let h = i .before .before .before in
-    let g = h .before .before .before .before in
-    let f = g .before .before .before .before in
-    so (on _ (got toldFetched _ _ _ _ (f .before .before .object-type .ensures) (f .number .given .1))
-    (on _ (got toldRated _ _ _ _ (g .before .before .frequency-of .ensures) (g .freq .given .1))
-    (on _ (got toldFetched _ _ _ _ (h .before .before .channels-of .ensures) (h .four .given .1))
-    (no-way _ (sym (i .before .is-core .ensures) ∙ i .if1 .left) (met _ _ _ _ (c .under-front .ensures))))))
+    ends (unless (channelled (i .before .before .before)) _ _ refl (sym (i .before .is-core .ensures)
+    ∙ i .if1 .left)) refl (met _ _ _ _ (c .under-front .ensures))
 
 pub audio-specific-config-spec : {M : Type 1} → statement M
 audio-specific-config-spec =
     tie.close
     (tie.spec
-    object-type-requires
-    enum-known-number
-    enum-told
-    why-requires
+    (λ c κs. search needs)
+    (λ c. search needs)
+    (λ c. search needs)
+    (λ c κs. search needs)
     returns
     frequency-of-requires
-    enum-known-freq
-    enum-told-2
-    why-rated-requires
+    (λ c. search needs)
+    (λ c. search needs)
     returns-2
     channels-of-requires
-    enum-known-four
-    enum-told-3
-    why-requires-2
+    (λ c. search needs)
+    (λ c. search needs)
+    (λ c κs. search needs)
     returns-3
-    is-core-requires
+    (λ c κs. search needs)
     alone-of-requires
     returns-4
     under-front-requires

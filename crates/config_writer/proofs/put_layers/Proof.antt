@@ -10,7 +10,9 @@ use Rattle.config_writer.proofs.put_layers.Statement.{statement}
 use Rattle.config_writer.proofs.put_layers.Tie as tie
 
 abbrev Inv-loop : tie.InvT-loop
-Inv-loop out₀ at version n first streams to₀ next₀ left₀ out to next left = (next + left ≡ first + n) × (to + 177 * left ≤ at + 177 * n) × Left out₀ at (layersBits version n first streams) out to (layersBits version left next streams)
+Inv-loop out₀ at version n first streams to₀ next₀ left₀ out to next left =
+    (next + left ≡ first + n) × (to + 177 * left ≤ at + 177 * n)
+    × Left out₀ at (layersBits version n first streams) out to (layersBits version left next streams)
 
 abbrev μ-loop : tie.MeasureT-loop
 μ-loop out₀ at version n first streams to₀ next₀ left₀ out to next left = left
@@ -18,24 +20,18 @@ abbrev μ-loop : tie.MeasureT-loop
 loop-holds : tie.Need-loop-holds Inv-loop μ-loop
 loop-holds c = (omega arith, omega arith, left-all)
 
-put-layer-requires : tie.Need-put-layer-requires Inv-loop μ-loop
-put-layer-requires c κs = search needs
-
-add-next : tie.Need-add-next Inv-loop μ-loop
-add-next c = search needs
-
-sub-left : tie.Need-sub-left Inv-loop μ-loop
-sub-left c = search needs
-
-loop-less : tie.Need-loop-less Inv-loop μ-loop
-loop-less c = search needs
-
 loop-again : tie.Need-loop-again Inv-loop μ-loop
 loop-again c =
     let f = c .before .before in
     let l = f .before .before .before in
-    let a = l .before .before .args in
-    (omega (arith, l .loop .inv .0), omega (arith, f .put-layer .ensures .0, l .loop .inv .1), left-put (rw (layers-turn (a .version) (a .streams) (l .loop .left) (l .loop .next) (omega arith)) at (l .loop .inv .2)) (f .put-layer .ensures .1))
+    let a = l .before .before .args in (
+      omega (arith, l .loop .inv .0),
+      omega (arith, f .put-layer .ensures .0, l .loop .inv .1),
+      left-put
+          (rw (layers-turn (a .version) (a .streams) (l .loop .left) (l .loop .next) (omega arith))
+          at (l .loop .inv .2))
+          (f .put-layer .ensures .1),
+    )
 
 returns : tie.Need-returns Inv-loop μ-loop
 unfolding layersBits
@@ -54,10 +50,10 @@ put-layers-spec =
     Inv-loop
     μ-loop
     loop-holds
-    put-layer-requires
-    add-next
-    sub-left
-    loop-less
+    (λ c κs. search needs)
+    (λ c. search needs)
+    (λ c. search needs)
+    (λ c. search needs)
     loop-again
     same-length
     returns)

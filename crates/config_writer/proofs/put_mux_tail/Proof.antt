@@ -6,37 +6,32 @@ use borrow.Author.Needs.{needs}
 use Rattle.config_writer.proofs.put_mux_tail.Statement.{statement}
 use Rattle.config_writer.proofs.put_mux_tail.Tie as tie
 
-put-requires : tie.Need-put-requires
-put-requires c κs = search needs
-
-put-other-length-requires : tie.Need-put-other-length-requires
-put-other-length-requires c κs = search needs
-
-put-requires-2 : tie.Need-put-requires-2
-put-requires-2 c κs = search needs
-
-put-if-requires : tie.Need-put-if-requires
-put-if-requires c κs = search needs
-
-same-length : tie.Need-same-length
-same-length c = search needs
-
 returns : tie.Need-returns
 unfolding muxTailBits
 returns c =
     let crc = c .before .before in
     let checked = crc .before .before .before .before .before in
     let bits = checked .before .before .before .before in
-    let other = bits .before .before .before .before in
-    (omega (arith, other .put .ensures .0, bits .put-other-length .ensures .0, checked .put2 .ensures .0, crc .put-if .ensures .0), put-then (other .put .ensures .1) (put-then (bits .put-other-length .ensures .1) (put-then (checked .put2 .ensures .1) (crc .put-if .ensures .1))))
+    let other = bits .before .before .before .before in (
+      omega (
+        arith,
+        other .put .ensures .0,
+        bits .put-other-length .ensures .0,
+        checked .put2 .ensures .0,
+        crc .put-if .ensures .0,
+      ),
+      put-then (other .put .ensures .1)
+          (put-then (bits .put-other-length .ensures .1)
+          (put-then (checked .put2 .ensures .1) (crc .put-if .ensures .1))),
+    )
 
 pub put-mux-tail-spec : {M : Type 1} → statement M
 put-mux-tail-spec =
     tie.close
     (tie.spec
-    put-requires
-    put-other-length-requires
-    put-requires-2
-    put-if-requires
-    same-length
+    (λ c κs. search needs)
+    (λ c κs. search needs)
+    (λ c κs. search needs)
+    (λ c κs. search needs)
+    (λ c. search needs)
     returns)

@@ -13,33 +13,25 @@ use Rattle.config_writer.proofs.put_programs.Statement.{statement}
 use Rattle.config_writer.proofs.put_programs.Tie as tie
 
 abbrev Inv-loop : tie.InvT-loop
-Inv-loop out₀ at version n streams layers to₀ p₀ next₀ left₀ out to p next left = (left + p ≡ n + 1) × (next ≡ streamsIn layers n p) × (next ≤ 16) × (to ≤ at + 3 * p + 177 * next) × Left out₀ at (programsBits version (n + 1) 0 0 layers streams) out to (programsBits version left p next layers streams)
+Inv-loop out₀ at version n streams layers to₀ p₀ next₀ left₀ out to p next left =
+    (left + p ≡ n + 1) × (next ≡ streamsIn layers n p) × (next ≤ 16) × (to ≤ at + 3 * p + 177 * next)
+    × Left out₀ at (programsBits version (n + 1) 0 0 layers streams) out to
+    (programsBits version left p next layers streams)
 
 abbrev μ-loop : tie.MeasureT-loop
 μ-loop out₀ at version n streams layers to₀ p₀ next₀ left₀ out to p next left = left
 
 -- the streams of the program at hand are among the 16
-room : (c : tie.In-loop Inv-loop μ-loop) → let l = c .before in l .loop .next + (getD (l .before .before .args .t5) (l .loop .p) 0 + 1) ≤ 16
+room : (c : tie.In-loop Inv-loop μ-loop) → let l = c .before in
+    l .loop .next + (getD (l .before .before .args .t5) (l .loop .p) 0 + 1) ≤ 16
 room c =
     let l = c .before in
     let a = l .before .before .args in
     omega (arith, l .loop .inv .1, few-streams (a .t5) (a .n) (l .loop .p) (omega arith) (omega arith) (omega arith))
 
-add-left : tie.Need-add-left Inv-loop μ-loop
-add-left c = search needs
-
 loop-holds : tie.Need-loop-holds Inv-loop μ-loop
 unfolding streamsIn
 loop-holds c = (omega arith, refl, omega arith, omega arith, left-all)
-
-mul-k : tie.Need-mul-k Inv-loop μ-loop
-mul-k c = search needs
-
-array-read-k : tie.Need-array-read-k Inv-loop μ-loop
-array-read-k c = search needs
-
-put-requires : tie.Need-put-requires Inv-loop μ-loop
-put-requires c κs = search needs
 
 add-put-layers : tie.Need-add-put-layers Inv-loop μ-loop
 add-put-layers c = omega (arith, room (c .before .before .before .before .before))
@@ -50,23 +42,11 @@ put-layers-requires c κs =
     let i = f .before .before in
     (omega (arith, f .put .ensures .0, room i, i .before .loop .inv .3), omega (arith, room i))
 
-cast-next : tie.Need-cast-next Inv-loop μ-loop
-cast-next c = search needs
-
 add-next : tie.Need-add-next Inv-loop μ-loop
 add-next c = omega (arith, room (c .before .before .before .before .before .before .before .before))
 
 add-next-2 : tie.Need-add-next-2 Inv-loop μ-loop
 add-next-2 c = omega (arith, room (c .before .before .before .before .before .before .before .before))
-
-add-p : tie.Need-add-p Inv-loop μ-loop
-add-p c = search needs
-
-sub-left : tie.Need-sub-left Inv-loop μ-loop
-sub-left c = search needs
-
-loop-less : tie.Need-loop-less Inv-loop μ-loop
-loop-less c = search needs
 
 loop-again : tie.Need-loop-again Inv-loop μ-loop
 loop-again c =
@@ -80,7 +60,8 @@ loop-again c =
       omega (arith, l .loop .inv .1, more),
       omega (arith, room i),
       omega (arith, f .put-layers .ensures .0, g .put .ensures .0, l .loop .inv .3),
-      left-put (left-put (rw (programs-turn (a .version) (a .streams) (l .loop .left) (l .loop .p) (l .loop .next) (a .t5) (omega arith)) at (l .loop .inv .4)) (g .put .ensures .1)) (f .put-layers .ensures .1),
+      left-put (left-put (rw (programs-turn (a .version) (a .streams) (l .loop .left) (l .loop .p) (l .loop .next)
+          (a .t5) (omega arith)) at (l .loop .inv .4)) (g .put .ensures .1)) (f .put-layers .ensures .1),
     )
 
 returns : tie.Need-returns Inv-loop μ-loop
@@ -99,19 +80,19 @@ put-programs-spec =
     (tie.spec
     Inv-loop
     μ-loop
-    add-left
+    (λ c. search needs)
     loop-holds
-    mul-k
-    array-read-k
-    put-requires
+    (λ c. search needs)
+    (λ c. search needs)
+    (λ c κs. search needs)
     add-put-layers
     put-layers-requires
-    cast-next
+    (λ c. search needs)
     add-next
     add-next-2
-    add-p
-    sub-left
-    loop-less
+    (λ c. search needs)
+    (λ c. search needs)
+    (λ c. search needs)
     loop-again
     same-length
     returns)

@@ -7,41 +7,14 @@ use borrow.Author.Needs.{needs}
 use Rattle.config_writer.proofs.put_sent_or_same.Statement.{statement}
 use Rattle.config_writer.proofs.put_sent_or_same.Tie as tie
 
-mul-s : tie.Need-mul-s
-mul-s c = search needs
-
-array-copy-out-s : tie.Need-array-copy-out-s
-array-copy-out-s c = search needs
-
-put-config-requires : tie.Need-put-config-requires
-put-config-requires c κs = search needs
-
-same-length : tie.Need-same-length
-same-length c = search needs
-
 returns : tie.Need-returns
 returns c =
     let p = c .before .before in
-    let i = p .before .before in
-    (omega (arith, p .put-config .ensures .0), rw (eq-eqb (i .before .before .before .before .args .next) 0 (i .if1 .taken)) (p .put-config .ensures .1))
-
-sub-i : tie.Need-sub-i
-sub-i c = search needs
-
-mul-before : tie.Need-mul-before
-mul-before c = search needs
-
-array-copy-out-before : tie.Need-array-copy-out-before
-array-copy-out-before c = search needs
-
-same-config-requires : tie.Need-same-config-requires
-same-config-requires c κs = search needs
-
-put-requires : tie.Need-put-requires
-put-requires c κs = search needs
-
-same-length-2 : tie.Need-same-length-2
-same-length-2 c = search needs
+    let i = p .before .before in (
+      omega (arith, p .put-config .ensures .0),
+      rw
+          (eq-eqb (i .before .before .before .before .args .next) 0 (i .if1 .taken)) (p .put-config .ensures .1),
+    )
 
 returns-2 : tie.Need-returns-2
 returns-2 c =
@@ -52,15 +25,6 @@ returns-2 c =
     let e = ne-eqb (n .before .before .before .before .args .next) 0 (n .if1 .left) in
     (omega (arith, p .put .ensures .0), rw (e, sym (s .same-config .ensures) ∙ i .if2 .taken) (p .put .ensures .1))
 
-put-requires-2 : tie.Need-put-requires-2
-put-requires-2 c κs = search needs
-
-put-config-requires-2 : tie.Need-put-config-requires-2
-put-config-requires-2 c κs = search needs
-
-same-length-3 : tie.Need-same-length-3
-same-length-3 c = search needs
-
 returns-3 : tie.Need-returns-3
 returns-3 c =
     let b = c .before .before in
@@ -68,26 +32,32 @@ returns-3 c =
     let i = a .before .before in
     let s = i .before in
     let n = s .before .before in
-    let e = ne-eqb (n .before .before .before .before .args .next) 0 (n .if1 .left) in
-    (omega (arith, a .put2 .ensures .0, b .put-config2 .ensures .0), rw (e, sym (s .same-config .ensures) ∙ i .if2 .left) (put-then (a .put2 .ensures .1) (b .put-config2 .ensures .1)))
+    let e = ne-eqb (n .before .before .before .before .args .next) 0 (n .if1 .left) in (
+      omega (arith, a .put2 .ensures .0, b .put-config2 .ensures .0),
+      rw (
+        e,
+        sym (s .same-config .ensures)
+            ∙ i .if2 .left,
+      ) (put-then (a .put2 .ensures .1) (b .put-config2 .ensures .1)),
+    )
 
 pub put-sent-or-same-spec : {M : Type 1} → statement M
 put-sent-or-same-spec =
     tie.close
     (tie.spec
-    mul-s
-    array-copy-out-s
-    put-config-requires
-    same-length
+    (λ c. search needs)
+    (λ c. search needs)
+    (λ c κs. search needs)
+    (λ c. search needs)
     returns
-    sub-i
-    mul-before
-    array-copy-out-before
-    same-config-requires
-    put-requires
-    same-length-2
+    (λ c. search needs)
+    (λ c. search needs)
+    (λ c. search needs)
+    (λ c κs. search needs)
+    (λ c κs. search needs)
+    (λ c. search needs)
     returns-2
-    put-requires-2
-    put-config-requires-2
-    same-length-3
+    (λ c κs. search needs)
+    (λ c κs. search needs)
+    (λ c. search needs)
     returns-3)

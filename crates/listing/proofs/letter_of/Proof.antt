@@ -8,9 +8,6 @@ use borrow.Author.Needs.{needs}
 use Rattle.listing.proofs.letter_of.Statement.{statement}
 use Rattle.listing.proofs.letter_of.Tie as tie
 
-array-read-result : tie.Need-array-read-result
-array-read-result c = search needs
-
 returns : tie.Need-returns
 returns c = getD-any kindLetters (c .before .args .kind) 0 63 (omega arith)
 
@@ -18,4 +15,7 @@ returns-2 : tie.Need-returns-2
 returns-2 c = sym (List·getD-eq-default kindLetters 63 (c .if1 .left))
 
 pub letter-of-spec : {M : Type 1} → statement M
-letter-of-spec = tie.close (tie.spec array-read-result returns returns-2)
+letter-of-spec = tie.close (tie.spec
+    (λ c. search needs)
+    returns
+    returns-2)

@@ -6,12 +6,6 @@ use Rattle.row.specs.Row.{rates}
 use Rattle.row.proofs.hz_at.Statement.{statement}
 use Rattle.row.proofs.hz_at.Tie as tie
 
-mul-result : tie.Need-mul-result
-mul-result c = search needs
-
-array-read-result : tie.Need-array-read-result
-array-read-result c = search needs
-
 returns : tie.Need-returns
 returns c = search needs
 
@@ -19,4 +13,8 @@ returns-2 : tie.Need-returns-2
 returns-2 c = sym (List·getD-eq-default rates 0 (c .if1 .left))
 
 pub hz-at-spec : {M : Type 1} → statement M
-hz-at-spec = tie.close (tie.spec mul-result array-read-result returns returns-2)
+hz-at-spec = tie.close (tie.spec
+    (λ c. search needs)
+    (λ c. search needs)
+    returns
+    returns-2)

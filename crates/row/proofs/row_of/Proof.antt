@@ -10,31 +10,29 @@ returns c = rw (le-ltb _ _ (c .if1 .taken))
 returns-2 : tie.Need-returns-2
 returns-2 c = rw (lt-ltb _ _ (c .before .if1 .left), le-ltb _ _ (c .if2 .taken))
 
-cell-at-requires : tie.Need-cell-at-requires
-cell-at-requires c κs = search needs
-
-cast-i : tie.Need-cast-i
-cast-i c = search needs
-
 returns-3 : tie.Need-returns-3
 returns-3 c =
     let n = c .before in
-    rw (lt-ltb _ _ (n .before .before .if1 .left), lt-ltb _ _ (n .before .if2 .left), ← n .cell-at .ensures, le-ltb _ _ (c .if3 .taken))
-
-mul-s : tie.Need-mul-s
-mul-s c = search needs
-
-element-copy-out-s : tie.Need-element-copy-out-s
-element-copy-out-s c = search needs
-
-stream-row-requires : tie.Need-stream-row-requires
-stream-row-requires c κs = search needs
+    rw (
+      lt-ltb _ _ (n .before .before .if1 .left),
+      lt-ltb _ _
+          (n .before .if2 .left),
+      ← n .cell-at .ensures,
+      le-ltb _ _ (c .if3 .taken),
+    )
 
 returns-4 : tie.Need-returns-4
 returns-4 c =
     let i = c .before .before in
     let n = i .before in
-    rw (lt-ltb _ _ (n .before .before .if1 .left), lt-ltb _ _ (n .before .if2 .left), ← n .cell-at .ensures, lt-ltb _ _ (i .if3 .left), c .stream-row .ensures)
+    rw (
+      lt-ltb _ _ (n .before .before .if1 .left),
+      lt-ltb _ _
+          (n .before .if2 .left),
+      ← n .cell-at .ensures,
+      lt-ltb _ _ (i .if3 .left),
+      c .stream-row .ensures,
+    )
 
 pub row-of-spec : {M : Type 1} → statement M
 row-of-spec =
@@ -42,10 +40,10 @@ row-of-spec =
     (tie.spec
     returns
     returns-2
-    cell-at-requires
-    cast-i
+    (λ c κs. search needs)
+    (λ c. search needs)
     returns-3
-    mul-s
-    element-copy-out-s
-    stream-row-requires
+    (λ c. search needs)
+    (λ c. search needs)
+    (λ c κs. search needs)
     returns-4)

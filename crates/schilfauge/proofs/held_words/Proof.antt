@@ -5,14 +5,11 @@ use borrow.Author.Needs.{needs}
 use Rattle.schilfauge.proofs.held_words.Statement.{statement}
 use Rattle.schilfauge.proofs.held_words.Tie as tie
 
-slice-aggregate-lay-record : tie.Need-slice-aggregate-lay-record
-slice-aggregate-lay-record c = search needs
-
-lay-record-requires : tie.Need-lay-record-requires
-lay-record-requires c κs = search needs
-
 returns : tie.Need-returns
 returns c = c .before .lay-record .ensures .1 ∙ laid-held (c .before .before .before .args .r)
 
 pub held-words-spec : {M : Type 1} → statement M
-held-words-spec = tie.close (tie.spec slice-aggregate-lay-record lay-record-requires returns)
+held-words-spec = tie.close (tie.spec
+    (λ c. search needs)
+    (λ c κs. search needs)
+    returns)

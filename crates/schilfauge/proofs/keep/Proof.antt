@@ -3,15 +3,6 @@ use borrow.Author.Needs.{needs}
 use Rattle.schilfauge.proofs.keep.Statement.{statement}
 use Rattle.schilfauge.proofs.keep.Tie as tie
 
-enum-known-v : tie.Need-enum-known-v
-enum-known-v c = search needs
-
-held-words-requires : tie.Need-held-words-requires
-held-words-requires c κs = search needs
-
-enum-told : tie.Need-enum-told
-enum-told c = search needs
-
 returns : tie.Need-returns
 returns c = rw (c .before .before .before .v .given .1, c .before .if1 .taken, c .held-words .ensures)
 
@@ -23,4 +14,10 @@ returns-3 c = rw (c .enum-told .given .1)
 
 pub keep-spec : {M : Type 1} → statement M
 keep-spec =
-    tie.close (tie.spec enum-known-v held-words-requires enum-told returns returns-2 returns-3)
+    tie.close (tie.spec
+    (λ c. search needs)
+    (λ c κs. search needs)
+    (λ c. search needs)
+    returns
+    returns-2
+    returns-3)

@@ -3,18 +3,6 @@ use borrow.Author.Needs.{needs}
 use Rattle.schilfauge.proofs.row_at.Statement.{statement}
 use Rattle.schilfauge.proofs.row_at.Tie as tie
 
-table-of-requires : tie.Need-table-of-requires
-table-of-requires c κs = search needs
-
-stream-at-requires : tie.Need-stream-at-requires
-stream-at-requires c κs = search needs
-
-row-of-requires : tie.Need-row-of-requires
-row-of-requires c κs = search needs
-
-row-words-requires : tie.Need-row-words-requires
-row-words-requires c κs = search needs
-
 returns : tie.Need-returns
 returns c =
     let x = c .before in
@@ -24,4 +12,9 @@ returns c =
 pub row-at-spec : {M : Type 1} → statement M
 row-at-spec =
     tie.close
-    (tie.spec table-of-requires stream-at-requires row-of-requires row-words-requires returns)
+    (tie.spec
+    (λ c κs. search needs)
+    (λ c κs. search needs)
+    (λ c κs. search needs)
+    (λ c κs. search needs)
+    returns)

@@ -4,26 +4,11 @@ use borrow.Author.Needs.{needs}
 use Rattle.schilfauge.proofs.schilf_frame.Statement.{statement}
 use Rattle.schilfauge.proofs.schilf_frame.Tie as tie
 
-frame-requires : tie.Need-frame-requires
-frame-requires c κs = search needs
-
-enum-known-n : tie.Need-enum-known-n
-enum-known-n c = search needs
-
-enum-known-x : tie.Need-enum-known-x
-enum-known-x c = search needs
-
-same-length : tie.Need-same-length
-same-length c = search needs
-
 returns : tie.Need-returns
 returns c =
     let f = c .before .before .before .before .before in
     let a = f .before .before .before .before .args in
     frame-told (a .element .now) (a .out .now) _ (a .written .now) _ _ (f .frame .ensures) (c .before .n .given .1)
-
-same-length-2 : tie.Need-same-length-2
-same-length-2 c = search needs
 
 returns-2 : tie.Need-returns-2
 returns-2 c =
@@ -34,4 +19,11 @@ returns-2 c =
 pub schilf-frame-spec : {M : Type 1} → statement M
 schilf-frame-spec =
     tie.close
-    (tie.spec frame-requires enum-known-n enum-known-x same-length returns same-length-2 returns-2)
+    (tie.spec
+    (λ c κs. search needs)
+    (λ c. search needs)
+    (λ c. search needs)
+    (λ c. search needs)
+    returns
+    (λ c. search needs)
+    returns-2)

@@ -5,15 +5,6 @@ use borrow.Author.Needs.{needs}
 use Rattle.schilfauge.proofs.schilf_hunt.Statement.{statement}
 use Rattle.schilfauge.proofs.schilf_hunt.Tie as tie
 
-hunt-requires : tie.Need-hunt-requires
-hunt-requires c κs = search needs
-
-enum-known-place : tie.Need-enum-known-place
-enum-known-place c = search needs
-
-enum-known-x : tie.Need-enum-known-x
-enum-known-x c = search needs
-
 returns : tie.Need-returns
 returns c =
     let h = c .before .before .before .before in
@@ -28,4 +19,9 @@ returns-2 c =
 
 pub schilf-hunt-spec : {M : Type 1} → statement M
 schilf-hunt-spec =
-    tie.close (tie.spec hunt-requires enum-known-place enum-known-x returns returns-2)
+    tie.close (tie.spec
+    (λ c κs. search needs)
+    (λ c. search needs)
+    (λ c. search needs)
+    returns
+    returns-2)

@@ -6,24 +6,6 @@ use borrow.Author.Needs.{needs}
 use Rattle.schilfauge.proofs.schilf_read.Statement.{statement}
 use Rattle.schilfauge.proofs.schilf_read.Tie as tie
 
-held-in-requires : tie.Need-held-in-requires
-held-in-requires c κs = search needs
-
-read-requires : tie.Need-read-requires
-read-requires c κs = search needs
-
-keep-requires : tie.Need-keep-requires
-keep-requires c κs = search needs
-
-answer-words-requires : tie.Need-answer-words-requires
-answer-words-requires c κs = search needs
-
-read-number-requires : tie.Need-read-number-requires
-read-number-requires c κs = search needs
-
-same-length : tie.Need-same-length
-same-length c = search needs
-
 returns : tie.Need-returns
 returns c =
     let k = c .before .before in
@@ -34,7 +16,8 @@ returns c =
     let v = ap (λ y. y .verdict) (e .0) in (
       c .read-number .ensures ∙ ap readNumber v,
       (
-        k .keep .ensures ∙ kept-held (a .element .now) (a .held .now) _ _ _ (h .held-in .ensures) (x .read .ensures .0),
+        k .keep .ensures ∙ kept-held (a .element .now) (a .held .now) _ _ _ (h .held-in .ensures)
+            (x .read .ensures .0),
         (e .1, c .before .answer-words .ensures ∙ ap answerWords v),
       ),
     )
@@ -43,10 +26,10 @@ pub schilf-read-spec : {M : Type 1} → statement M
 schilf-read-spec =
     tie.close
     (tie.spec
-    held-in-requires
-    read-requires
-    keep-requires
-    answer-words-requires
-    read-number-requires
-    same-length
+    (λ c κs. search needs)
+    (λ c κs. search needs)
+    (λ c κs. search needs)
+    (λ c κs. search needs)
+    (λ c κs. search needs)
+    (λ c. search needs)
     returns)

@@ -4,47 +4,31 @@ use borrow.Author.Needs.{needs}
 use Rattle.schilfauge.proofs.schilf_write.Statement.{statement}
 use Rattle.schilfauge.proofs.schilf_write.Tie as tie
 
-record-in-requires : tie.Need-record-in-requires
-record-in-requires c κs = search needs
-
-write-requires : tie.Need-write-requires
-write-requires c κs = search needs
-
-enum-known-n : tie.Need-enum-known-n
-enum-known-n c = search needs
-
-enum-known-x : tie.Need-enum-known-x
-enum-known-x c = search needs
-
-same-length : tie.Need-same-length
-same-length c = search needs
-
 returns : tie.Need-returns
 returns c =
     let w = c .before .before .before .before .before in
     let r = w .before .before in
     let a = r .before .before .before .before .before .before .args in
-    write-told (a .words .now) (a .send) (a .lengths .now) (a .payload .now) (a .other .now) (a .out .now) _ (a .written .now) _ _ _ (r .record-in .ensures) (w .write .ensures) (c .before .n .given .1)
-
-same-length-2 : tie.Need-same-length-2
-same-length-2 c = search needs
+    write-told (a .words .now) (a .send) (a .lengths .now) (a .payload .now) (a .other .now) (a .out .now) _
+    (a .written .now) _ _ _ (r .record-in .ensures) (w .write .ensures) (c .before .n .given .1)
 
 returns-2 : tie.Need-returns-2
 returns-2 c =
     let w = c .before .before .before .before .before in
     let r = w .before .before in
     let a = r .before .before .before .before .before .before .args in
-    write-told (a .words .now) (a .send) (a .lengths .now) (a .payload .now) (a .other .now) (a .out .now) _ (a .written .now) _ _ _ (r .record-in .ensures) (w .write .ensures) (c .before .x .given .1)
+    write-told (a .words .now) (a .send) (a .lengths .now) (a .payload .now) (a .other .now) (a .out .now) _
+    (a .written .now) _ _ _ (r .record-in .ensures) (w .write .ensures) (c .before .x .given .1)
 
 pub schilf-write-spec : {M : Type 1} → statement M
 schilf-write-spec =
     tie.close
     (tie.spec
-    record-in-requires
-    write-requires
-    enum-known-n
-    enum-known-x
-    same-length
+    (λ c κs. search needs)
+    (λ c κs. search needs)
+    (λ c. search needs)
+    (λ c. search needs)
+    (λ c. search needs)
     returns
-    same-length-2
+    (λ c. search needs)
     returns-2)

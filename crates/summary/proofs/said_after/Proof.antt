@@ -3,15 +3,6 @@ use borrow.Author.Needs.{needs}
 use Rattle.summary.proofs.said_after.Statement.{statement}
 use Rattle.summary.proofs.said_after.Tie as tie
 
-enum-told : tie.Need-enum-told
-enum-told c = search needs
-
-enum-known-v : tie.Need-enum-known-v
-enum-known-v c = search needs
-
-first-wanting-requires : tie.Need-first-wanting-requires
-first-wanting-requires c κs = search needs
-
 returns : tie.Need-returns
 returns c = search needs
 
@@ -20,4 +11,9 @@ returns-2 c = rw (c .before .before .v .given .1, c .first-wanting .ensures)
 
 pub said-after-spec : {M : Type 1} → statement M
 said-after-spec =
-    tie.close (tie.spec enum-told enum-known-v first-wanting-requires returns returns-2)
+    tie.close (tie.spec
+    (λ c. search needs)
+    (λ c. search needs)
+    (λ c κs. search needs)
+    returns
+    returns-2)

@@ -12,20 +12,11 @@ use Rattle.sync.proofs.element_at.Tie as tie
 within : (c : tie.Then1) → let a = c .before .before .before .args in a .place + 3 + a .size ≤ length (a .capture .now)
 within c = leb-true _ _ (sym (c .before .ends-within .ensures) ∙ c .if1 .taken)
 
-ends-within-requires : tie.Need-ends-within-requires
-ends-within-requires c κs = search needs
-
 add-from : tie.Need-add-from
 add-from c = omega (arith, within c, c .before .before .shared-slice-known .given 0)
 
 add-to : tie.Need-add-to
 add-to c = omega (arith, within c)
-
-sub-result : tie.Need-sub-result
-sub-result c = search needs
-
-part-result-start : tie.Need-part-result-start
-part-result-start c = search needs
 
 part-result-end : tie.Need-part-result-end
 part-result-end c = omega (arith, within c)
@@ -35,15 +26,6 @@ returns c =
     let d = c .before in
     let a = d .before .before .before .args in
     element-in (a .capture .now) (a .place) (a .size) (sym (d .before .ends-within .ensures) ∙ d .if1 .taken)
-
-sub-result-2 : tie.Need-sub-result-2
-sub-result-2 c = search needs
-
-part-result-start-2 : tie.Need-part-result-start-2
-part-result-start-2 c = search needs
-
-part-result-end-2 : tie.Need-part-result-end-2
-part-result-end-2 c = search needs
 
 returns-2 : tie.Need-returns-2
 returns-2 c =
@@ -55,14 +37,14 @@ pub element-at-spec : {M : Type 1} → statement M
 element-at-spec =
     tie.close
     (tie.spec
-    ends-within-requires
+    (λ c κs. search needs)
     add-from
     add-to
-    sub-result
-    part-result-start
+    (λ c. search needs)
+    (λ c. search needs)
     part-result-end
     returns
-    sub-result-2
-    part-result-start-2
-    part-result-end-2
+    (λ c. search needs)
+    (λ c. search needs)
+    (λ c. search needs)
     returns-2)

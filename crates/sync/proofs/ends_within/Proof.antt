@@ -19,9 +19,6 @@ returns-2 c =
     let h : a .room < a .place + 3 + a .size = omega arith in
     sym (lt-leb _ _ h)
 
-sub-if3 : tie.Need-sub-if3
-sub-if3 c = search needs
-
 returns-3 : tie.Need-returns-3
 returns-3 c =
     let a = c .before .before .before .args in
@@ -35,4 +32,9 @@ returns-4 c =
     sym (le-leb _ _ h)
 
 pub ends-within-spec : {M : Type 1} → statement M
-ends-within-spec = tie.close (tie.spec returns returns-2 sub-if3 returns-3 returns-4)
+ends-within-spec = tie.close (tie.spec
+    returns
+    returns-2
+    (λ c. search needs)
+    returns-3
+    returns-4)

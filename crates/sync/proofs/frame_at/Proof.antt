@@ -5,25 +5,11 @@ use borrow.Author.Needs.{needs}
 use Rattle.sync.proofs.frame_at.Statement.{statement}
 use Rattle.sync.proofs.frame_at.Tie as tie
 
-marked-requires : tie.Need-marked-requires
-marked-requires c κs = search needs
-
-size-at-requires : tie.Need-size-at-requires
-size-at-requires c κs = search needs
-
-add-end : tie.Need-add-end
-add-end c = search needs
-
-add-end-2 : tie.Need-add-end-2
-add-end-2 c = search needs
-
-marked-requires-2 : tie.Need-marked-requires-2
-marked-requires-2 c κs = search needs
-
 returns : tie.Need-returns
 returns c =
     let a = c .before .before .before .before .before .args in
-    frame-is (a .s .now) (a .p) (c .before .size-at .result) _ (sym (c .before .before .before .marked .ensures) ∙ c .before .before .if1 .taken) (c .before .size-at .ensures .0) (c .marked2 .ensures)
+    frame-is (a .s .now) (a .p) (c .before .size-at .result) _ (sym (c .before .before .before .marked .ensures)
+    ∙ c .before .before .if1 .taken) (c .before .size-at .ensures .0) (c .marked2 .ensures)
 
 returns-2 : tie.Need-returns-2
 returns-2 c =
@@ -34,10 +20,10 @@ pub frame-at-spec : {M : Type 1} → statement M
 frame-at-spec =
     tie.close
     (tie.spec
-    marked-requires
-    size-at-requires
-    add-end
-    add-end-2
-    marked-requires-2
+    (λ c κs. search needs)
+    (λ c κs. search needs)
+    (λ c. search needs)
+    (λ c. search needs)
+    (λ c κs. search needs)
     returns
     returns-2)

@@ -12,13 +12,11 @@ use Rattle.sync.proofs.hunt.Statement.{statement}
 use Rattle.sync.proofs.hunt.Tie as tie
 
 abbrev Inv-loop : tie.InvT-loop
-Inv-loop capture start p₀ p = (length capture ≤ 65536) × (firstOf capture p (length capture - p) ≡ firstOf capture start (length capture - start))
+Inv-loop capture start p₀ p =
+    (length capture ≤ 65536) × (firstOf capture p (length capture - p) ≡ firstOf capture start (length capture - start))
 
 abbrev μ-loop : tie.MeasureT-loop
 μ-loop capture start p₀ p = length capture - p
-
-unread-requires : tie.Need-unread-requires Inv-loop μ-loop
-unread-requires c κs = search needs
 
 returns : tie.Need-returns Inv-loop μ-loop
 returns c =
@@ -28,41 +26,31 @@ returns c =
 loop-holds : tie.Need-loop-holds Inv-loop μ-loop
 loop-holds c = search needs
 
-frame-at-requires : tie.Need-frame-at-requires Inv-loop μ-loop
-frame-at-requires c κs = search needs
-
-size-at-requires : tie.Need-size-at-requires Inv-loop μ-loop
-size-at-requires c κs = search needs
-
 returns-2 : tie.Need-returns-2 Inv-loop μ-loop
 returns-2 c =
     let l = c .before .before .before .before in
     let a = l .before .before .before .args in
     let s = a .capture .now in
     hunt-is s (a .start) (l .loop .inv .0)
-    (sym (l .loop .inv .1) ∙ first-here s (l .loop .p) (omega arith) (sym (c .before .before .frame-at .ensures) ∙ c .before .if2 .taken) ∙ ap (Found (l .loop .p)) (sym (c .size-at .ensures .0)))
-
-add-p : tie.Need-add-p Inv-loop μ-loop
-add-p c = search needs
-
-loop-less : tie.Need-loop-less Inv-loop μ-loop
-loop-less c = search needs
+    (sym (l .loop .inv .1) ∙ first-here s (l .loop .p) (omega arith) (sym (c .before .before .frame-at .ensures)
+    ∙ c .before .if2 .taken) ∙ ap (Found (l .loop .p)) (sym (c .size-at .ensures .0)))
 
 loop-again : tie.Need-loop-again Inv-loop μ-loop
 loop-again c =
     let l = c .before .before .before in
-    let a = l .before .before .before .args in
-    (l .loop .inv .0, sym (first-on (a .capture .now) (l .loop .p) (omega arith) (sym (c .before .frame-at .ensures) ∙ c .if2 .left)) ∙ l .loop .inv .1)
-
-unread-requires-2 : tie.Need-unread-requires-2 Inv-loop μ-loop
-unread-requires-2 c κs = search needs
+    let a = l .before .before .before .args in (
+      l .loop .inv .0,
+      sym (first-on (a .capture .now) (l .loop .p) (omega arith) (sym (c .before .frame-at .ensures)
+          ∙ c .if2 .left)) ∙ l .loop .inv .1,
+    )
 
 returns-3 : tie.Need-returns-3 Inv-loop μ-loop
 returns-3 c =
     let l = c .before .before in
     let a = l .before .before .before .args in
     hunt-is (a .capture .now) (a .start) (l .loop .inv .0)
-    (sym (l .loop .inv .1) ∙ first-none (a .capture .now) (l .loop .p) (omega arith) ∙ ap Refused (sym (c .unread2 .ensures)))
+    (sym (l .loop .inv .1) ∙ first-none (a .capture .now) (l .loop .p) (omega arith)
+    ∙ ap Refused (sym (c .unread2 .ensures)))
 
 pub hunt-spec : {M : Type 1} → statement M
 hunt-spec =
@@ -70,14 +58,14 @@ hunt-spec =
     (tie.spec
     Inv-loop
     μ-loop
-    unread-requires
+    (λ c κs. search needs)
     returns
     loop-holds
-    frame-at-requires
-    size-at-requires
+    (λ c κs. search needs)
+    (λ c κs. search needs)
     returns-2
-    add-p
-    loop-less
+    (λ c. search needs)
+    (λ c. search needs)
     loop-again
-    unread-requires-2
+    (λ c κs. search needs)
     returns-3)

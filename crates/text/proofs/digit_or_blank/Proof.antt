@@ -7,14 +7,12 @@ use Rattle.text.proofs.digit_or_blank.Tie as tie
 returns : tie.Need-returns
 returns c = rw (eq-eqb (c .before .args .n) 0 (c .if1 .taken))
 
-add-result : tie.Need-add-result
-add-result c = search needs
-
-cast-result : tie.Need-cast-result
-cast-result c = search needs
-
 returns-2 : tie.Need-returns-2
 returns-2 c = rw (ne-eqb (c .before .args .n) 0 (c .if1 .left))
 
 pub digit-or-blank-spec : {M : Type 1} → statement M
-digit-or-blank-spec = tie.close (tie.spec returns add-result cast-result returns-2)
+digit-or-blank-spec = tie.close (tie.spec
+    returns
+    (λ c. search needs)
+    (λ c. search needs)
+    returns-2)

@@ -5,18 +5,6 @@ use borrow.Author.Needs.{needs}
 use Rattle.text.proofs.lay_column.Statement.{statement}
 use Rattle.text.proofs.lay_column.Tie as tie
 
-slice-aggregate-lay : tie.Need-slice-aggregate-lay
-slice-aggregate-lay c = search needs
-
-lay-requires : tie.Need-lay-requires
-lay-requires c κs = search needs
-
-lay-number-requires : tie.Need-lay-number-requires
-lay-number-requires c κs = search needs
-
-same-length : tie.Need-same-length
-same-length c = search needs
-
 returns : tie.Need-returns
 returns c =
     let n = c .before .before .lay-number .ensures in
@@ -25,4 +13,9 @@ returns c =
 
 pub lay-column-spec : {M : Type 1} → statement M
 lay-column-spec =
-    tie.close (tie.spec slice-aggregate-lay lay-requires lay-number-requires same-length returns)
+    tie.close (tie.spec
+    (λ c. search needs)
+    (λ c κs. search needs)
+    (λ c κs. search needs)
+    (λ c. search needs)
+    returns)

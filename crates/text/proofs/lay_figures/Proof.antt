@@ -12,7 +12,8 @@ use Rattle.text.proofs.lay_figures.Statement.{statement}
 use Rattle.text.proofs.lay_figures.Tie as tie
 
 abbrev Inv-loop : tie.InvT-loop
-Inv-loop out₀ at width n left₀ rest₀ out left rest = (left ≤ width) × (sets out at (figures left rest) ≡ sets out₀ at (figures width n))
+Inv-loop out₀ at width n left₀ rest₀ out left rest =
+    (left ≤ width) × (sets out at (figures left rest) ≡ sets out₀ at (figures width n))
 
 abbrev μ-loop : tie.MeasureT-loop
 μ-loop out₀ at width n left₀ rest₀ out left rest = left
@@ -20,27 +21,16 @@ abbrev μ-loop : tie.MeasureT-loop
 loop-holds : tie.Need-loop-holds Inv-loop μ-loop
 loop-holds c = (omega arith, refl)
 
-sub-left : tie.Need-sub-left Inv-loop μ-loop
-sub-left c = search needs
-
-add-store : tie.Need-add-store Inv-loop μ-loop
-add-store c = search needs
-
-digit-or-blank-requires : tie.Need-digit-or-blank-requires Inv-loop μ-loop
-digit-or-blank-requires c κs = search needs
-
-store-requires : tie.Need-store-requires Inv-loop μ-loop
-store-requires c κs = search needs
-
-loop-less : tie.Need-loop-less Inv-loop μ-loop
-loop-less c = search needs
-
 loop-again : tie.Need-loop-again Inv-loop μ-loop
 loop-again c =
     let l = c .before .before .before .before .before .before in
     let a = l .before .before .args in
-    let e : l .loop .left - 1 + 1 ≡ l .loop .left = omega arith in
-    (omega arith, rw (c .before .before .store .ensures) (figures-step (l .loop .out) _ (a .at) (l .loop .left - 1) (l .loop .rest) _ (c .before .before .before .digit-or-blank .ensures) (rw e (l .loop .inv .1))))
+    let e : l .loop .left - 1 + 1 ≡ l .loop .left = omega arith in (
+      omega arith,
+      rw (c .before .before .store .ensures)
+          (figures-step (l .loop .out) _ (a .at) (l .loop .left - 1) (l .loop .rest) _
+          (c .before .before .before .digit-or-blank .ensures) (rw e (l .loop .inv .1))),
+    )
 
 done : (c : tie.After-loop Inv-loop μ-loop) → let a = c .before .before .before .args in
     Stored (a .out .now) (a .at) (figures (a .width) (a .n)) (c .before .loop .out) (a .at + a .width)
@@ -64,11 +54,11 @@ lay-figures-spec =
     Inv-loop
     μ-loop
     loop-holds
-    sub-left
-    add-store
-    digit-or-blank-requires
-    store-requires
-    loop-less
+    (λ c. search needs)
+    (λ c. search needs)
+    (λ c κs. search needs)
+    (λ c κs. search needs)
+    (λ c. search needs)
     loop-again
     same-length
     returns)

@@ -18,26 +18,19 @@ size-fits c =
     let l : length (c .before .line-of .result) ≡ 68 = search needs in
     omega (arith, fits c, c .size-of .ensures, l)
 
-says : (c : tie.After-size-of) → take (c .size-of .result) (c .before .line-of .result) ≡ wordsOf (c .before .before .before .args .number)
+says : (c : tie.After-size-of)
+    → take (c .size-of .result) (c .before .line-of .result) ≡ wordsOf (c .before .before .before .args .number)
 says c = words-are 68 (c .before .before .before .args .number) (c .before .line-of .ensures) (c .size-of .ensures)
-
-line-of-requires : tie.Need-line-of-requires
-line-of-requires c κs = search needs
-
-size-of-requires : tie.Need-size-of-requires
-size-of-requires c κs = search needs
 
 array-share-prefix-line : tie.Need-array-share-prefix-line
 array-share-prefix-line c = size-fits (c .before)
 
 slice-aggregate-lay : tie.Need-slice-aggregate-lay
-slice-aggregate-lay c = let d = c .before .before in sym (length-take-le (d .size-of .result) (d .before .line-of .result) (size-fits d))
+slice-aggregate-lay c =
+    let d = c .before .before in sym (length-take-le (d .size-of .result) (d .before .line-of .result) (size-fits d))
 
 lay-requires : tie.Need-lay-requires
 lay-requires c κs = let d = c .before .before in rw (says d) (omega (arith, fits d, d .before .before .before .pre))
-
-same-length : tie.Need-same-length
-same-length c = search needs
 
 returns : tie.Need-returns
 returns c =
@@ -49,10 +42,10 @@ pub lay-known-spec : {M : Type 1} → statement M
 lay-known-spec =
     tie.close
     (tie.spec
-    line-of-requires
-    size-of-requires
+    (λ c κs. search needs)
+    (λ c κs. search needs)
     array-share-prefix-line
     slice-aggregate-lay
     lay-requires
-    same-length
+    (λ c. search needs)
     returns)

@@ -6,14 +6,11 @@ use borrow.Author.Needs.{needs}
 use Rattle.text.proofs.line_of.Statement.{statement}
 use Rattle.text.proofs.line_of.Tie as tie
 
-mul-result : tie.Need-mul-result
-mul-result c = search needs
-
-array-copy-out-result : tie.Need-array-copy-out-result
-array-copy-out-result c = search needs
-
 returns : tie.Need-returns
 returns c = entry (padded 68) _ (c .before .args .number) (omega arith)
 
 pub line-of-spec : {M : Type 1} → statement M
-line-of-spec = tie.close (tie.spec mul-result array-copy-out-result returns)
+line-of-spec = tie.close (tie.spec
+    (λ c. search needs)
+    (λ c. search needs)
+    returns)

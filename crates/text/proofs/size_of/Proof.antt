@@ -8,14 +8,11 @@ use borrow.Author.Needs.{needs}
 use Rattle.text.proofs.size_of.Statement.{statement}
 use Rattle.text.proofs.size_of.Tie as tie
 
-mul-result : tie.Need-mul-result
-mul-result c = search needs
-
-array-read-result : tie.Need-array-read-result
-array-read-result c = search needs
-
 returns : tie.Need-returns
 returns c = entry (λ (s : String). length (letters s)) 0 (c .args .number) (omega arith)
 
 pub size-of-spec : {M : Type 1} → statement M
-size-of-spec = tie.close (tie.spec mul-result array-read-result returns)
+size-of-spec = tie.close (tie.spec
+    (λ c. search needs)
+    (λ c. search needs)
+    returns)

@@ -14,25 +14,20 @@ use Rattle.writer.proofs.Whole.{fits-are, whole-is, few-is, enough-is, 
 use Rattle.writer.proofs.put_element.Statement.{statement}
 use Rattle.writer.proofs.put_element.Tie as tie
 
-streams-in-requires : tie.Need-streams-in-requires
-streams-in-requires c κs = search needs
-
 abbrev sent : tie.Start → Sent
 sent s = let a = s .args in toSend (a .r) (a .send) (a .ns .now) (a .payload .now) (a .other .now)
 
-count-is : (i : tie.After-streams-in) → i .streams-in .result ≡ length (streamsOf (i .before .before .before .before .before .before .before .args .r))
+count-is : (i : tie.After-streams-in)
+    → i .streams-in .result ≡ length (streamsOf (i .before .before .before .before .before .before .before .args .r))
 count-is i =
     let s = i .before .before .before .before .before .before .before in
-    streams-count (s .args .r) (s .pre .0) (simp length-map at (s .good .1 .0 .1 .1 .1 .1 .1 .1 .1 .1 .1 .0 .1 .0 .1)) (i .streams-in .ensures)
+    streams-count (s .args .r) (s .pre .0) (simp length-map at (s .good .1 .0 .1 .1 .1 .1 .1 .1 .1 .1 .1 .0 .1 .0 .1))
+    (i .streams-in .ensures)
 
 put-front-requires : tie.Need-put-front-requires
-put-front-requires c κs = let s = c .before .before .before .before .before .before .before .before in let o = record-ok (s .args .r) (s .pre .0) in (o .programs, o .count)
-
-cast-put-subframes : tie.Need-cast-put-subframes
-cast-put-subframes c = search needs
-
-add-put-subframes : tie.Need-add-put-subframes
-add-put-subframes c = search needs
+put-front-requires c κs =
+    let s = c .before .before .before .before .before .before .before .before in
+    let o = record-ok (s .args .r) (s .pre .0) in (o .programs, o .count)
 
 put-subframes-requires : tie.Need-put-subframes-requires
 put-subframes-requires c κs =
@@ -44,21 +39,28 @@ put-subframes-requires c κs =
     let f = fits-are w (s .pre .1) in
     let k = count-is i in
     let n : length (a .ns .now) ≡ (a .r .subframes + 1) * i .streams-in .result = f .number ∙ rw (← k) in
-    let p : sumOf ((a .r .subframes + 1) * i .streams-in .result) (a .ns .now) ≡ length (a .payload .now) = rw k (whole-is w f) in
-    (omega (arith, c .before .before .before .before .put-front .ensures .0), omega (arith, i .streams-in .ensures, o .count), omega (arith, o .subframes), n, p, omega (arith, p, rw (← k) at (few-is w f (s .pre .2))))
+    let p : sumOf ((a .r .subframes + 1) * i .streams-in .result) (a .ns .now)
+    ≡ length (a .payload .now) = rw k (whole-is w f) in (
+      omega (arith, c .before .before .before .before .put-front .ensures .0),
+      omega
+          (arith, i .streams-in .ensures, o .count),
+      omega (arith, o .subframes),
+      n,
+      p,
+      omega
+          (arith, p, rw (← k) at (few-is w f (s .pre .2))),
+    )
 
 put-other-requires : tie.Need-put-other-requires
 put-other-requires c κs =
     let b = c .before .before .before in
-    let s = b .before .before .before .before .before .before .before .before .before .before .before .before .before .before in
-    let f = fits-are (sent s) (s .pre .1) in
-    (omega (arith, b .put-subframes .ensures .0, b .before .before .before .before .before .put-front .ensures .0), other-few (sent s) f (s .pre .2), enough-is (sent s) f)
-
-put-alignment-requires : tie.Need-put-alignment-requires
-put-alignment-requires c κs = search needs
-
-same-length : tie.Need-same-length
-same-length c = search needs
+    let s =
+    b .before .before .before .before .before .before .before .before .before .before .before .before .before .before in
+    let f = fits-are (sent s) (s .pre .1) in (
+      omega (arith, b .put-subframes .ensures .0, b .before .before .before .before .before .put-front .ensures .0),
+      other-few (sent s) f (s .pre .2),
+      enough-is (sent s) f,
+    )
 
 returns : tie.Need-returns
 returns c =
@@ -69,19 +71,20 @@ returns c =
     let w = sent (i .before .before .before .before .before .before .before) in
     let p = rw (i .streams-in .ensures) at (b .put-subframes .ensures .1) in
     let a = b .before .before .before .before .before .put-front .ensures .1 in
-    let e : o .result ≡ 0 + length (frontBits (w .send) (w .config)) + length (bitsIn (slots w)) + length (bitsIn (others w)) = o .ensures .1 .next ∙ rw (p .next, a .next) in
+    let e : o .result ≡ 0 + length (frontBits (w .send) (w .config)) + length (bitsIn (slots w))
+    + length (bitsIn (others w)) = o .ensures .1 .next ∙ rw (p .next, a .next) in
     rw (← element-bits w (o .result) e) (put-then a (put-then p (put-then (o .ensures .1) l)))
 
 pub put-element-spec : {M : Type 1} → statement M
 put-element-spec =
     tie.close
     (tie.spec
-    streams-in-requires
+    (λ c κs. search needs)
     put-front-requires
-    cast-put-subframes
-    add-put-subframes
+    (λ c. search needs)
+    (λ c. search needs)
     put-subframes-requires
     put-other-requires
-    put-alignment-requires
-    same-length
+    (λ c κs. search needs)
+    (λ c. search needs)
     returns)

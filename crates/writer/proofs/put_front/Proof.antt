@@ -6,42 +6,34 @@ use borrow.Author.Needs.{needs}
 use Rattle.writer.proofs.put_front.Statement.{statement}
 use Rattle.writer.proofs.put_front.Tie as tie
 
-put-requires : tie.Need-put-requires
-put-requires c κs = search needs
-
-put-mux-requires : tie.Need-put-mux-requires
-put-mux-requires c κs = search needs
-
-same-length : tie.Need-same-length
-same-length c = search needs
-
 returns : tie.Need-returns
 returns c =
     let m = c .before .before .put-mux .ensures in
     let p = c .before .before .before .before .before .before in
-    let i = p .before .before in
-    (omega (arith, m .0, p .put .ensures .0), rw (← front-sent (i .before .before .args .send) (i .before .before .args .r) (i .if1 .taken)) (put-then (p .put .ensures .1) (m .1)))
-
-put-requires-2 : tie.Need-put-requires-2
-put-requires-2 c κs = search needs
-
-same-length-2 : tie.Need-same-length-2
-same-length-2 c = search needs
+    let i = p .before .before in (
+      omega (arith, m .0, p .put .ensures .0),
+      rw
+          (← front-sent (i .before .before .args .send) (i .before .before .args .r) (i .if1 .taken))
+          (put-then (p .put .ensures .1) (m .1)),
+    )
 
 returns-2 : tie.Need-returns-2
 returns-2 c =
     let p = c .before .before .put2 .ensures in
-    let i = c .before .before .before .before in
-    (omega (arith, p .0), rw (← front-held (i .before .before .args .send) (i .before .before .args .r) (i .if1 .left)) (p .1))
+    let i = c .before .before .before .before in (
+      omega (arith, p .0),
+      rw (← front-held (i .before .before .args .send) (i .before .before .args .r)
+          (i .if1 .left)) (p .1),
+    )
 
 pub put-front-spec : {M : Type 1} → statement M
 put-front-spec =
     tie.close
     (tie.spec
-    put-requires
-    put-mux-requires
-    same-length
+    (λ c κs. search needs)
+    (λ c κs. search needs)
+    (λ c. search needs)
     returns
-    put-requires-2
-    same-length-2
+    (λ c κs. search needs)
+    (λ c. search needs)
     returns-2)

@@ -11,7 +11,8 @@ use Rattle.writer.proofs.put_length.Statement.{statement}
 use Rattle.writer.proofs.put_length.Tie as tie
 
 abbrev Inv-loop : tie.InvT-loop
-Inv-loop out₀ at n left₀ to₀ out left to = (left ≤ n) × (to + 8 * (left / 255) ≡ at + 8 * (n / 255)) × Left out₀ at (lengthBits n) out to (lengthBits left)
+Inv-loop out₀ at n left₀ to₀ out left to =
+    (left ≤ n) × (to + 8 * (left / 255) ≡ at + 8 * (n / 255)) × Left out₀ at (lengthBits n) out to (lengthBits left)
 
 abbrev μ-loop : tie.MeasureT-loop
 μ-loop out₀ at n left₀ to₀ out left to = left
@@ -19,22 +20,18 @@ abbrev μ-loop : tie.MeasureT-loop
 loop-holds : tie.Need-loop-holds Inv-loop μ-loop
 loop-holds c = (omega arith, omega arith, left-all)
 
-put-requires : tie.Need-put-requires Inv-loop μ-loop
-put-requires c κs = search needs
-
-loop-less : tie.Need-loop-less Inv-loop μ-loop
-loop-less c = search needs
-
 loop-again : tie.Need-loop-again Inv-loop μ-loop
 loop-again c =
     let l = c .before .before .before .before .before .loop in
-    let p = c .before .before .put .ensures in
-    (omega arith, omega (arith, p .0, l .inv), left-put (rw (length-turn (l .left) (omega arith)) at (l .inv .2)) (p .1))
+    let p = c .before .before .put .ensures in (
+      omega arith,
+      omega (arith, p .0, l .inv),
+      left-put (rw (length-turn (l .left) (omega arith)) at (l .inv .2))
+          (p .1),
+    )
 
-put-requires-2 : tie.Need-put-requires-2 Inv-loop μ-loop
-put-requires-2 c κs = search needs
-
-done : (c : tie.After-slice-known3 Inv-loop μ-loop) → let a = c .before .before .before .before .before .before .before .args in
+done : (c : tie.After-slice-known3 Inv-loop μ-loop)
+    → let a = c .before .before .before .before .before .before .before .args in
     Put (a .out .now) (a .at) (lengthBits (a .n)) (c .before .before .put2 .last .0) (c .before .before .put2 .result)
 done c =
     let l = c .before .before .before .before .before .loop in
@@ -44,7 +41,8 @@ same-length : tie.Need-same-length Inv-loop μ-loop
 same-length c = put-length (done c)
 
 returns : tie.Need-returns Inv-loop μ-loop
-returns c = (omega (arith, c .before .before .put2 .ensures .0, c .before .before .before .before .before .loop .inv), done c)
+returns c =
+    (omega (arith, c .before .before .put2 .ensures .0, c .before .before .before .before .before .loop .inv), done c)
 
 pub put-length-spec : {M : Type 1} → statement M
 put-length-spec =
@@ -53,9 +51,9 @@ put-length-spec =
     Inv-loop
     μ-loop
     loop-holds
-    put-requires
-    loop-less
+    (λ c κs. search needs)
+    (λ c. search needs)
     loop-again
-    put-requires-2
+    (λ c κs. search needs)
     same-length
     returns)

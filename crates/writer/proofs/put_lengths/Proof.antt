@@ -12,7 +12,10 @@ use Rattle.writer.proofs.put_lengths.Statement.{statement}
 use Rattle.writer.proofs.put_lengths.Tie as tie
 
 abbrev Inv-loop : tie.InvT-loop
-Inv-loop out₀ at count ns from streams to₀ i₀ out to i = (i ≤ count) × (to ≤ at + 264 * i) × (sumOf (count - i) (drop (from + i) ns) ≤ 8191) × Left out₀ at (lengthsBits (take count streams) (drop from ns)) out to (lengthsBits (drop i (take count streams)) (drop (from + i) ns))
+Inv-loop out₀ at count ns from streams to₀ i₀ out to i =
+    (i ≤ count) × (to ≤ at + 264 * i) × (sumOf (count - i) (drop (from + i) ns) ≤ 8191)
+    × Left out₀ at (lengthsBits (take count streams) (drop from ns)) out to
+    (lengthsBits (drop i (take count streams)) (drop (from + i) ns))
 
 abbrev μ-loop : tie.MeasureT-loop
 μ-loop out₀ at count ns from streams to₀ i₀ out to i = count - i
@@ -24,34 +27,15 @@ loop-holds c =
     let n : a .count - 0 ≡ a .count = omega arith in
     (omega arith, omega arith, rw (e, n) (c .before .before .pre .3), rw e left-all)
 
-mul-s : tie.Need-mul-s Inv-loop μ-loop
-mul-s c = search needs
-
-array-copy-out-s : tie.Need-array-copy-out-s Inv-loop μ-loop
-array-copy-out-s c = search needs
-
-add-put-slot : tie.Need-add-put-slot Inv-loop μ-loop
-add-put-slot c = search needs
-
-mul-put-slot : tie.Need-mul-put-slot Inv-loop μ-loop
-mul-put-slot c = search needs
-
-shared-slice-read-put-slot : tie.Need-shared-slice-read-put-slot Inv-loop μ-loop
-shared-slice-read-put-slot c = search needs
-
 put-slot-requires : tie.Need-put-slot-requires Inv-loop μ-loop
 put-slot-requires c κs =
     let l = c .before .before .before .before .loop in
     let s = c .before .before .before .before .before .before .before in
     let k : length (s .args .t3) ≡ 16 = search needs in
-    let z = array-sum-turn (s .args .t3) (s .args .count) (s .args .ns .now) (s .args .from) (l .i) (omega arith) (omega (arith, k, s .pre .1)) in
+    let z =
+    array-sum-turn (s .args .t3) (s .args .count) (s .args .ns .now) (s .args .from) (l .i) (omega arith)
+    (omega (arith, k, s .pre .1)) in
     omega (arith, z, l .inv, s .pre .0, s .pre .1)
-
-add-i : tie.Need-add-i Inv-loop μ-loop
-add-i c = search needs
-
-loop-less : tie.Need-loop-less Inv-loop μ-loop
-loop-less c = search needs
 
 loop-again : tie.Need-loop-again Inv-loop μ-loop
 loop-again c =
@@ -62,11 +46,17 @@ loop-again c =
     let k : length (a .t3) ≡ 16 = search needs in
     let h : l .i < a .count = omega arith in
     let m : a .count ≤ length (a .t3) = omega (arith, k, s .pre .1) in
-    let z = array-sum-turn (a .t3) (a .count) (a .ns .now) (a .from) (l .i) h m in
-    (omega arith, omega (arith, p .0, l .inv), omega (arith, z, l .inv), left-put (rw (array-bits-turn (a .t3) (a .count) (a .ns .now) (a .from) (l .i) h m) at (l .inv .3)) (p .1))
+    let z = array-sum-turn (a .t3) (a .count) (a .ns .now) (a .from) (l .i) h m in (
+      omega arith,
+      omega (arith, p .0, l .inv),
+      omega (arith, z, l .inv),
+      left-put
+          (rw (array-bits-turn (a .t3) (a .count) (a .ns .now) (a .from) (l .i) h m) at (l .inv .3)) (p .1),
+    )
 
 done : (c : tie.After-loop Inv-loop μ-loop) → let a = c .before .before .before .before .args in
-    Put (a .out .now) (a .at) (lengthsBits (take (a .count) (a .t3)) (drop (a .from) (a .ns .now))) (c .before .loop .out) (c .before .loop .to)
+    Put (a .out .now) (a .at) (lengthsBits (take (a .count) (a .t3)) (drop (a .from) (a .ns .now)))
+    (c .before .loop .out) (c .before .loop .to)
 unfolding lengthsBits
 done c =
     let l = c .before .loop in
@@ -88,14 +78,14 @@ put-lengths-spec =
     Inv-loop
     μ-loop
     loop-holds
-    mul-s
-    array-copy-out-s
-    add-put-slot
-    mul-put-slot
-    shared-slice-read-put-slot
+    (λ c. search needs)
+    (λ c. search needs)
+    (λ c. search needs)
+    (λ c. search needs)
+    (λ c. search needs)
     put-slot-requires
-    add-i
-    loop-less
+    (λ c. search needs)
+    (λ c. search needs)
     loop-again
     same-length
     returns)

@@ -31,29 +31,24 @@ size-of-requires c κs =
     let o = record-ok (s .args .r) (s .pre .0) in
     (o .programs, o .count, s .pre .3, s .pre .4)
 
-unread-requires : tie.Need-unread-requires
-unread-requires c κs = search needs
-
-same-length : tie.Need-same-length
-same-length c = search needs
-
 returns : tie.Need-returns
 returns c =
     let z = c .before .before in
-    let s = start z in
-    (ap Refused (c .unread .ensures) ∙ written-18 (sent s) _ (s .pre .0) (s .pre .1) (omega (arith, size z, c .before .if1 .taken)), refl)
-
-unread-requires-2 : tie.Need-unread-requires-2
-unread-requires-2 c κs = search needs
-
-same-length-2 : tie.Need-same-length-2
-same-length-2 c = search needs
+    let s = start z in (
+      ap Refused (c .unread .ensures)
+          ∙ written-18 (sent s) _ (s .pre .0) (s .pre .1) (omega (arith, size z, c .before .if1 .taken)),
+      refl,
+    )
 
 returns-2 : tie.Need-returns-2
 returns-2 c =
     let z = c .before .before .before in
-    let s = start z in
-    (ap Refused (c .unread2 .ensures) ∙ written-19 (sent s) _ (s .pre .0) (s .pre .1) (omega (arith, size z, c .before .before .if1 .left)) (omega (arith, size z, c .before .if2 .taken)), refl)
+    let s = start z in (
+      ap Refused (c .unread2 .ensures)
+          ∙ written-19 (sent s) _ (s .pre .0) (s .pre .1) (omega (arith, size z, c .before .before .if1 .left))
+          (omega (arith, size z, c .before .if2 .taken)),
+      refl,
+    )
 
 put-element-requires : tie.Need-put-element-requires
 put-element-requires c κs =
@@ -62,12 +57,6 @@ put-element-requires c κs =
     let m : sizeOf (sent s) ≤ 8191 = omega (arith, size z, c .before .before .if1 .left) in
     (s .pre .0, s .pre .1, m)
 
-same-length-3 : tie.Need-same-length-3
-same-length-3 c = search needs
-
-same-length-4 : tie.Need-same-length-4
-same-length-4 c = search needs
-
 returns-3 : tie.Need-returns-3
 returns-3 c =
     let z = c .before .before .before .before .before .before in
@@ -75,9 +64,12 @@ returns-3 c =
     let w = sent s in
     let n = size z in
     let few : sizeOf w ≤ 8191 = omega (arith, n, c .before .before .before .before .before .if1 .left) in
-    let room : sizeOf w ≤ length (s .args .out .now) = omega (arith, n, c .before .before .before .before .if2 .left) in (
+    let room : sizeOf w ≤ length (s .args .out .now) =
+    omega (arith, n, c .before .before .before .before .if2 .left) in (
       ap Done n ∙ written-done w _ (s .pre .0) (s .pre .1) few room,
-      rw n (put-front (sizeOf w) (whole-bytes w (fits-are w (s .pre .1))) room (λ i. omega (arith, z .before .before .before .before .slice-known2 .given i)) (λ i. omega (arith, c .slice-known4 .given i)) (c .before .before .put-element .ensures)),
+      rw n (put-front (sizeOf w) (whole-bytes w (fits-are w (s .pre .1))) room
+          (λ i. omega (arith, z .before .before .before .before .slice-known2 .given i))
+          (λ i. omega (arith, c .slice-known4 .given i)) (c .before .before .put-element .ensures)),
     )
 
 pub write-fitting-spec : {M : Type 1} → statement M
@@ -85,13 +77,13 @@ write-fitting-spec =
     tie.close
     (tie.spec
     size-of-requires
-    unread-requires
-    same-length
+    (λ c κs. search needs)
+    (λ c. search needs)
     returns
-    unread-requires-2
-    same-length-2
+    (λ c κs. search needs)
+    (λ c. search needs)
     returns-2
     put-element-requires
-    same-length-3
-    same-length-4
+    (λ c. search needs)
+    (λ c. search needs)
     returns-3)

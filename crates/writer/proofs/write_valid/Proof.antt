@@ -20,29 +20,28 @@ use Rattle.writer.proofs.write_valid.Tie as tie
 abbrev sent : tie.Start → Sent
 sent s = let a = s .args in toSend (a .r) (a .send) (a .ns .now) (a .payload .now) (a .other .now)
 
-count-is : (i : tie.After-streams-in) → i .streams-in .result ≡ length (streamsOf (i .before .before .before .before .before .before .before .args .r))
+count-is : (i : tie.After-streams-in)
+    → i .streams-in .result ≡ length (streamsOf (i .before .before .before .before .before .before .before .args .r))
 count-is i =
     let s = i .before .before .before .before .before .before .before in
-    streams-count (s .args .r) (s .pre) (simp length-map at (s .good .0 .1 .1 .1 .1 .1 .1 .1 .1 .1 .0 .1 .0 .1)) (i .streams-in .ensures)
+    streams-count (s .args .r) (s .pre) (simp length-map at (s .good .0 .1 .1 .1 .1 .1 .1 .1 .1 .1 .0 .1 .0 .1))
+    (i .streams-in .ensures)
 
-by-record : (m : tie.After-measure-all) → let a = m .before .before .before .before .before .before .before .before .before .before .args in m .measure-all .result ≡ measureAll (a .r .subframes + 1) (streamsOf (a .r)) (a .ns .now)
+by-record : (m : tie.After-measure-all)
+    → let a = m .before .before .before .before .before .before .before .before .before .before .args in
+    m .measure-all .result ≡ measureAll (a .r .subframes + 1) (streamsOf (a .r)) (a .ns .now)
 by-record m = rw (m .before .before .before .streams-in .ensures) at (m .measure-all .ensures .0)
 
-tested : (o : tie.After-other-bytes) → let m = o .before .before in let w = sent (m .before .before .before .before .before .before .before .before .before .before) in let x = m .measure-all .result in
+tested : (o : tie.After-other-bytes) → let m = o .before .before in
+    let w = sent (m .before .before .before .before .before .before .before .before .before .before) in
+    let x = m .measure-all .result in
     (x .fits && (eqb (length (w .payload)) (x .payload) && eqb (length (w .other)) (o .other-bytes .result))) ≡ fits w
 tested o =
     let m = o .before .before in
     let i = m .before .before .before in
-    fits-by (sent (m .before .before .before .before .before .before .before .before .before .before)) (i .streams-in .result) (m .measure-all .result) (o .other-bytes .result) (count-is i) (m .before .if1 .left) (by-record m) (o .other-bytes .ensures)
-
-streams-in-requires : tie.Need-streams-in-requires
-streams-in-requires c κs = search needs
-
-cast-n : tie.Need-cast-n
-cast-n c = search needs
-
-add-n : tie.Need-add-n
-add-n c = search needs
+    fits-by (sent (m .before .before .before .before .before .before .before .before .before .before))
+    (i .streams-in .result) (m .measure-all .result) (o .other-bytes .result) (count-is i) (m .before .if1 .left)
+    (by-record m) (o .other-bytes .ensures)
 
 mul-if1 : tie.Need-mul-if1
 mul-if1 c =
@@ -53,14 +52,15 @@ mul-if1 c =
     let k : i .streams-in .result ≤ 16 = omega (arith, i .streams-in .ensures, o .count) in
     omega (arith, few-slots (s .args .r .subframes + 1) (i .streams-in .result) h k)
 
-unread-requires : tie.Need-unread-requires
-unread-requires c κs = search needs
-
 returns : tie.Need-returns
 returns c =
     let i = c .before .before .before in
-    let s = i .before .before .before .before .before .before .before in
-    (ap Refused (c .unread .ensures) ∙ written-17 (sent s) _ (s .pre) (number-no (sent s) (i .streams-in .result) (count-is i) (c .before .if1 .taken)), refl)
+    let s = i .before .before .before .before .before .before .before in (
+      ap Refused (c .unread .ensures)
+          ∙ written-17 (sent s) _ (s .pre)
+          (number-no (sent s) (i .streams-in .result) (count-is i) (c .before .if1 .taken)),
+      refl,
+    )
 
 measure-all-requires : tie.Need-measure-all-requires
 measure-all-requires c κs =
@@ -69,12 +69,6 @@ measure-all-requires c κs =
     let o = record-ok (s .args .r) (s .pre) in
     (omega (arith, i .streams-in .ensures, o .count), omega (arith, o .subframes), c .if1 .left)
 
-other-bytes-requires : tie.Need-other-bytes-requires
-other-bytes-requires c κs = search needs
-
-slice-aggregate-write-fitting : tie.Need-slice-aggregate-write-fitting
-slice-aggregate-write-fitting c = search needs
-
 write-fitting-requires : tie.Need-write-fitting-requires
 write-fitting-requires c κs =
     let t = c .before .before in
@@ -82,38 +76,42 @@ write-fitting-requires c κs =
     let s = m .before .before .before .before .before .before .before .before .before .before in
     let e = by-record m in
     let f = sym (tested (t .before .before)) ∙ t .if2 .taken in
-    let p = payload-is (m .measure-all .result .fits) _ (m .measure-all .result .payload) _ (t .if2 .taken) in
-    (s .pre, f, ap (λ (x : Measure). x .lengths) e, m .measure-all .ensures .1 .0, omega (arith, p, m .measure-all .ensures .1 .1))
-
-same-length : tie.Need-same-length
-same-length c = search needs
+    let p = payload-is (m .measure-all .result .fits) _ (m .measure-all .result .payload) _ (t .if2 .taken) in (
+      s .pre,
+      f,
+      ap (λ (x : Measure). x .lengths) e,
+      m .measure-all .ensures .1 .0,
+      omega
+          (arith, p, m .measure-all .ensures .1 .1),
+    )
 
 returns-2 : tie.Need-returns-2
 returns-2 c = search needs
 
-unread-requires-2 : tie.Need-unread-requires-2
-unread-requires-2 c κs = search needs
-
 returns-3 : tie.Need-returns-3
 returns-3 c =
-    let s = c .before .before .before .before .before .before .before .before .before .before .before .before .before .before .before in
-    (ap Refused (c .unread2 .ensures) ∙ written-17 (sent s) _ (s .pre) (sym (tested (c .before .before .before)) ∙ c .before .if2 .left), refl)
+    let t = c .before .before .before .before .before .before .before .before in
+    let s = t .before .before .before .before .before .before .before in (
+      ap Refused (c .unread2 .ensures)
+          ∙ written-17 (sent s) _ (s .pre) (sym (tested (c .before .before .before)) ∙ c .before .if2 .left),
+      refl,
+    )
 
 pub write-valid-spec : {M : Type 1} → statement M
 write-valid-spec =
     tie.close
     (tie.spec
-    streams-in-requires
-    cast-n
-    add-n
+    (λ c κs. search needs)
+    (λ c. search needs)
+    (λ c. search needs)
     mul-if1
-    unread-requires
+    (λ c κs. search needs)
     returns
     measure-all-requires
-    other-bytes-requires
-    slice-aggregate-write-fitting
+    (λ c κs. search needs)
+    (λ c. search needs)
     write-fitting-requires
-    same-length
+    (λ c. search needs)
     returns-2
-    unread-requires-2
+    (λ c κs. search needs)
     returns-3)

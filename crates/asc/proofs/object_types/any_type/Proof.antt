@@ -9,15 +9,6 @@ use Rattle.asc.specs.Asc.{anyType}
 use Rattle.asc.proofs.object_types.any_type.Statement.{statement}
 use Rattle.asc.proofs.object_types.any_type.Tie as tie
 
-take-at-requires : tie.Need-take-at-requires
-take-at-requires c κs = search needs
-
-enum-known-five : tie.Need-enum-known-five
-enum-known-five c = search needs
-
-enum-told : tie.Need-enum-told
-enum-told c = search needs
-
 returns : tie.Need-returns
 unfolding anyType
 returns c =
@@ -26,14 +17,12 @@ returns c =
 
 take-at-requires-2 : tie.Need-take-at-requires-2
 take-at-requires-2 c κs =
-    let f = c .before .before in
-    (omega arith, omega arith, steady (got toldFetched _ _ _ _ (f .before .before .take-at .ensures) (f .five .given .1)) (omega arith))
-
-enum-known-six : tie.Need-enum-known-six
-enum-known-six c = search needs
-
-enum-told-2 : tie.Need-enum-told-2
-enum-told-2 c = search needs
+    let f = c .before .before in (
+      omega arith,
+      omega arith,
+      steady
+          (got toldFetched _ _ _ _ (f .before .before .take-at .ensures) (f .five .given .1)) (omega arith),
+    )
 
 returns-2 : tie.Need-returns-2
 unfolding anyType
@@ -42,7 +31,8 @@ returns-2 c =
     let f = c .before .before .before .before .before in
     ap toldFetched q
     ∙ so (on _ (got toldFetched _ _ _ _ (f .before .before .take-at .ensures) (f .five .given .1))
-    (yes-way _ (eq-eqb _ 31 (c .before .before .before .if1 .taken)) (off _ (got toldFetched _ _ _ _ (c .before .before .take-at2 .ensures) q))))
+    (yes-way _ (eq-eqb _ 31 (c .before .before .before .if1 .taken))
+    (off _ (got toldFetched _ _ _ _ (c .before .before .take-at2 .ensures) q))))
 
 add-t11 : tie.Need-add-t11
 add-t11 c =
@@ -62,19 +52,20 @@ returns-4 : tie.Need-returns-4
 unfolding anyType
 returns-4 c =
     let f = c .before .before in
-    so (on _ (got toldFetched _ _ _ _ (f .before .before .take-at .ensures) (f .five .given .1)) (no-way _ (ne-eqb _ 31 (c .if1 .left)) gives))
+    so (on _ (got toldFetched _ _ _ _ (f .before .before .take-at .ensures) (f .five .given .1))
+    (no-way _ (ne-eqb _ 31 (c .if1 .left)) gives))
 
 pub any-type-spec : {M : Type 1} → statement M
 any-type-spec =
     tie.close
     (tie.spec
-    take-at-requires
-    enum-known-five
-    enum-told
+    (λ c κs. search needs)
+    (λ c. search needs)
+    (λ c. search needs)
     returns
     take-at-requires-2
-    enum-known-six
-    enum-told-2
+    (λ c. search needs)
+    (λ c. search needs)
     returns-2
     add-t11
     returns-3

@@ -3,20 +3,11 @@ use mathlib.Core.Path.{ap, sym, _∙_}
 use native.Mathlib.Omega.{arith}
 use borrow.Author.Needs.{needs}
 use borrow.Author.Tests.{eq-eqb, ne-eqb}
-use Rattle.kernel.specs.Answer.{toldFetched}
+use Rattle.kernel.specs.Answer.{refusal, toldFetched}
 use Rattle.kernel.proofs.Chain.{met, got, so, gives, yes-way, no-way, holds, fails, on, off, steady, took}
 use Rattle.asc.specs.Asc.{objectType}
 use Rattle.asc.proofs.object_types.object_type.Statement.{statement}
 use Rattle.asc.proofs.object_types.object_type.Tie as tie
-
-take-at-requires : tie.Need-take-at-requires
-take-at-requires c κs = search needs
-
-enum-known-five : tie.Need-enum-known-five
-enum-known-five c = search needs
-
-enum-told : tie.Need-enum-told
-enum-told c = search needs
 
 returns : tie.Need-returns
 unfolding objectType
@@ -37,9 +28,6 @@ returns-2 c =
     so (on _ (got toldFetched _ _ _ _ (f .before .before .take-at .ensures) (f .five .given .1))
     (yes-way _ (eq-eqb _ 31 (c .before .if1 .taken)) (met _ _ _ _ (c .escaped .ensures))))
 
-carried-requires : tie.Need-carried-requires
-carried-requires c κs = search needs
-
 returns-3 : tie.Need-returns-3
 unfolding objectType
 returns-3 c =
@@ -50,22 +38,26 @@ returns-3 c =
 
 returns-4 : tie.Need-returns-4
 unfolding objectType
-returns-4 c =
+returns-4 d =
+    let c = d .before in
     let e = c .before .before in
     let f = e .before .before in
     let s = got toldFetched _ _ _ _ (f .before .before .take-at .ensures) (f .five .given .1) in
-    so (on _ s (no-way _ (ne-eqb _ 31 (e .if1 .left)) (fails _ 5 (sym (c .before .carried .ensures) ∙ c .if2 .left) (took _ 5 s .moved))))
+    ap refusal (d .refused-at .ensures)
+    ∙ so (on _ s (no-way _ (ne-eqb _ 31 (e .if1 .left)) (fails _ 5 (sym (c .before .carried .ensures)
+    ∙ c .if2 .left) (took _ 5 s .moved))))
 
 pub object-type-spec : {M : Type 1} → statement M
 object-type-spec =
     tie.close
     (tie.spec
-    take-at-requires
-    enum-known-five
-    enum-told
+    (λ c κs. search needs)
+    (λ c. search needs)
+    (λ c. search needs)
     returns
     escaped-requires
     returns-2
-    carried-requires
+    (λ c κs. search needs)
     returns-3
+    (λ c κs. search needs)
     returns-4)

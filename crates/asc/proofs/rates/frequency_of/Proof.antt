@@ -1,5 +1,5 @@
 -- `asc::rates::frequency_of` meets its contract.
-use mathlib.Core.Path.{ap, _≡_, _∙_}
+use mathlib.Core.Path.{_≡_, ap, _∙_}
 use Prim.Native.Nat.{ℕ, _≤_, _<_}
 use native.Mathlib.Omega.{arith}
 use borrow.Author.Needs.{needs}
@@ -10,23 +10,12 @@ use Rattle.asc.specs.Asc.{frequency}
 use Rattle.asc.proofs.rates.frequency_of.Statement.{statement}
 use Rattle.asc.proofs.rates.frequency_of.Tie as tie
 
-take-at-requires : tie.Need-take-at-requires
-take-at-requires c κs = search needs
-
-enum-known-four : tie.Need-enum-known-four
-enum-known-four c = search needs
-
-enum-told : tie.Need-enum-told
-enum-told c = search needs
-
-why-requires : tie.Need-why-requires
-why-requires c κs = search needs
-
 returns : tie.Need-returns
 unfolding frequency
 returns c =
     let q = c .before .enum-told .given .1 in
-    ap refusal (c .why .ensures ∙ ap whyFetched q) ∙ so (off _ (got toldFetched _ _ _ _ (c .before .before .before .take-at .ensures) q))
+    ap refusal (c .why .ensures ∙ ap whyFetched q)
+    ∙ so (off _ (got toldFetched _ _ _ _ (c .before .before .before .take-at .ensures) q))
 
 hertz-of-requires : tie.Need-hertz-of-requires
 hertz-of-requires c κs =
@@ -49,28 +38,32 @@ returns-3 c =
     let f = c .before .before .before in
     let v : ℕ = f .four .given .0 .0 in
     let h : v ≤ 12 = omega arith in
-    so (on _ (got toldFetched _ _ _ _ (f .before .before .take-at .ensures) (f .four .given .1)) (yes-way _ (le-leb v 12 h) gives))
+    so (on _ (got toldFetched _ _ _ _ (f .before .before .take-at .ensures) (f .four .given .1))
+    (yes-way _ (le-leb v 12 h) gives))
 
 returns-4 : tie.Need-returns-4
 unfolding frequency
-returns-4 c =
+returns-4 d =
+    let c = d .before in
     let f = c .before .before .before in
     let v : ℕ = f .four .given .0 .0 in
     let h : 12 < v = omega arith in
     let g : v ≡ 15 → ⊥ = λ e. omega arith in
     let s = got toldFetched _ _ _ _ (f .before .before .take-at .ensures) (f .four .given .1) in
-    so (on _ s (no-way _ (lt-leb v 12 h) (no-way _ (ne-eqb v 15 g) (refuses (took _ 4 s .moved)))))
+    ap refusal (d .refused-at .ensures)
+    ∙ so (on _ s (no-way _ (lt-leb v 12 h) (no-way _ (ne-eqb v 15 g) (refuses (took _ 4 s .moved)))))
 
 pub frequency-of-spec : {M : Type 1} → statement M
 frequency-of-spec =
     tie.close
     (tie.spec
-    take-at-requires
-    enum-known-four
-    enum-told
-    why-requires
+    (λ c κs. search needs)
+    (λ c. search needs)
+    (λ c. search needs)
+    (λ c κs. search needs)
     returns
     hertz-of-requires
+    (λ c κs. search needs)
     returns-2
     returns-3
     returns-4)

@@ -10,32 +10,22 @@ use Rattle.asc.specs.Asc.{hertz}
 use Rattle.asc.proofs.rates.hertz_of.Statement.{statement}
 use Rattle.asc.proofs.rates.hertz_of.Tie as tie
 
-take-at-requires : tie.Need-take-at-requires
-take-at-requires c κs = search needs
-
-enum-known-hz : tie.Need-enum-known-hz
-enum-known-hz c = search needs
-
-enum-told : tie.Need-enum-told
-enum-told c = search needs
-
-why-requires : tie.Need-why-requires
-why-requires c κs = search needs
-
 returns : tie.Need-returns
 unfolding hertz
 returns c =
     let q = c .before .enum-told .given .1 in
-    ap refusal (c .why .ensures ∙ ap whyFetched q) ∙ so (off _ (got toldFetched _ _ _ _ (c .before .before .before .take-at .ensures) q))
+    ap refusal (c .why .ensures ∙ ap whyFetched q)
+    ∙ so (off _ (got toldFetched _ _ _ _ (c .before .before .before .take-at .ensures) q))
 
 returns-2 : tie.Need-returns-2
 unfolding hertz
-returns-2 c =
+returns-2 d =
+    let c = d .before in
     let f = c .before .before in
     let v : ℕ = f .hz .given .0 .0 in
     let h : v < 1 = omega arith in
     let s = got toldFetched _ _ _ _ (f .before .before .take-at .ensures) (f .hz .given .1) in
-    so (on _ s (fails _ 24 (lt-leb 1 v h) (took _ 24 s .moved)))
+    ap refusal (d .refused-at .ensures) ∙ so (on _ s (fails _ 24 (lt-leb 1 v h) (took _ 24 s .moved)))
 
 returns-3 : tie.Need-returns-3
 unfolding hertz
@@ -43,9 +33,18 @@ returns-3 c =
     let f = c .before .before in
     let v : ℕ = f .hz .given .0 .0 in
     let h : 1 ≤ v = omega arith in
-    so (on _ (got toldFetched _ _ _ _ (f .before .before .take-at .ensures) (f .hz .given .1)) (holds _ _ (le-leb 1 v h) gives))
+    so (on _ (got toldFetched _ _ _ _ (f .before .before .take-at .ensures) (f .hz .given .1))
+    (holds _ _ (le-leb 1 v h) gives))
 
 pub hertz-of-spec : {M : Type 1} → statement M
 hertz-of-spec =
     tie.close
-    (tie.spec take-at-requires enum-known-hz enum-told why-requires returns returns-2 returns-3)
+    (tie.spec
+    (λ c κs. search needs)
+    (λ c. search needs)
+    (λ c. search needs)
+    (λ c κs. search needs)
+    returns
+    (λ c κs. search needs)
+    returns-2
+    returns-3)

@@ -1,5 +1,5 @@
 -- `asc::signalling::extension_type` meets its contract.
-use mathlib.Core.Path.{ap, _≡_, _∙_}
+use mathlib.Core.Path.{_≡_, ap, _∙_}
 use Prim.Native.Nat.{ℕ}
 use native.Mathlib.Omega.{arith}
 use borrow.Author.Needs.{needs}
@@ -11,23 +11,12 @@ use Rattle.asc.proofs.Types.{five-bits}
 use Rattle.asc.proofs.signalling.extension_type.Statement.{statement}
 use Rattle.asc.proofs.signalling.extension_type.Tie as tie
 
-any-type-requires : tie.Need-any-type-requires
-any-type-requires c κs = search needs
-
-enum-known-number : tie.Need-enum-known-number
-enum-known-number c = search needs
-
-enum-told : tie.Need-enum-told
-enum-told c = search needs
-
-why-requires : tie.Need-why-requires
-why-requires c κs = search needs
-
 returns : tie.Need-returns
 unfolding extensionType
 returns c =
     let q = c .before .enum-told .given .1 in
-    ap refusal (c .why .ensures ∙ ap whyFetched q) ∙ so (off _ (got toldFetched _ _ _ _ (c .before .before .before .any-type .ensures) q))
+    ap refusal (c .why .ensures ∙ ap whyFetched q)
+    ∙ so (off _ (got toldFetched _ _ _ _ (c .before .before .before .any-type .ensures) q))
 
 sbr-extension-requires : tie.Need-sbr-extension-requires
 sbr-extension-requires c κs =
@@ -40,17 +29,20 @@ returns-2 c =
     let f = c .before .before .before in
     let t : ℕ = f .number .given .0 .0 in
     let h : t ≡ 5 = omega arith in
-    so (on _ (got toldFetched _ _ _ _ (f .before .before .any-type .ensures) (f .number .given .1)) (yes-way _ (eq-eqb t 5 h) (met _ _ _ _ (c .sbr-extension .ensures))))
+    so (on _ (got toldFetched _ _ _ _ (f .before .before .any-type .ensures) (f .number .given .1))
+    (yes-way _ (eq-eqb t 5 h) (met _ _ _ _ (c .sbr-extension .ensures))))
 
 returns-3 : tie.Need-returns-3
 unfolding extensionType
-returns-3 c =
+returns-3 d =
+    let c = d .before in
     let f = c .before .before in
     let t : ℕ = f .number .given .0 .0 in
     let h : t ≡ 22 = omega arith in
     let g : t ≡ 5 → ⊥ = λ e. omega arith in
     let s = got toldFetched _ _ _ _ (f .before .before .any-type .ensures) (f .number .given .1) in
-    so (on _ s (no-way _ (ne-eqb t 5 g) (yes-way _ (eq-eqb t 22 h) (refuses (five-bits _ s (omega arith))))))
+    ap refusal (d .refused-at .ensures)
+    ∙ so (on _ s (no-way _ (ne-eqb t 5 g) (yes-way _ (eq-eqb t 22 h) (refuses (five-bits _ s (omega arith))))))
 
 returns-4 : tie.Need-returns-4
 unfolding extensionType
@@ -59,18 +51,20 @@ returns-4 c =
     let t : ℕ = f .number .given .0 .0 in
     let g : t ≡ 5 → ⊥ = λ e. omega arith in
     let h : t ≡ 22 → ⊥ = λ e. omega arith in
-    so (on _ (got toldFetched _ _ _ _ (f .before .before .any-type .ensures) (f .number .given .1)) (no-way _ (ne-eqb t 5 g) (no-way _ (ne-eqb t 22 h) gives)))
+    so (on _ (got toldFetched _ _ _ _ (f .before .before .any-type .ensures) (f .number .given .1))
+    (no-way _ (ne-eqb t 5 g) (no-way _ (ne-eqb t 22 h) gives)))
 
 pub extension-type-spec : {M : Type 1} → statement M
 extension-type-spec =
     tie.close
     (tie.spec
-    any-type-requires
-    enum-known-number
-    enum-told
-    why-requires
+    (λ c κs. search needs)
+    (λ c. search needs)
+    (λ c. search needs)
+    (λ c κs. search needs)
     returns
     sbr-extension-requires
+    (λ c κs. search needs)
     returns-2
     returns-3
     returns-4)

@@ -6,12 +6,6 @@ use borrow.Author.Needs.{needs}
 use Rattle.asc.proofs.signalling.left_of.Statement.{statement}
 use Rattle.asc.proofs.signalling.left_of.Tie as tie
 
-enum-told : tie.Need-enum-told
-enum-told c = search needs
-
-enum-known-win : tie.Need-enum-known-win
-enum-known-win c = search needs
-
 returns : tie.Need-returns
 returns c =
     let e : c .before .before .win .given .0 .0 - c .before .before .before .before .args .at ≡ 0 = omega arith in
@@ -24,4 +18,9 @@ returns-3 : tie.Need-returns-3
 returns-3 c = rw (c .before .before .win .given .1)
 
 pub left-of-spec : {M : Type 1} → statement M
-left-of-spec = tie.close (tie.spec enum-told enum-known-win returns returns-2 returns-3)
+left-of-spec = tie.close (tie.spec
+    (λ c. search needs)
+    (λ c. search needs)
+    returns
+    returns-2
+    returns-3)

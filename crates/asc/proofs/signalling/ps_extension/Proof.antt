@@ -9,37 +9,21 @@ use Rattle.asc.specs.Asc.{psExtension}
 use Rattle.asc.proofs.signalling.ps_extension.Statement.{statement}
 use Rattle.asc.proofs.signalling.ps_extension.Tie as tie
 
-take-at-requires : tie.Need-take-at-requires
-take-at-requires c κs = search needs
-
-enum-known-sync : tie.Need-enum-known-sync
-enum-known-sync c = search needs
-
-enum-told : tie.Need-enum-told
-enum-told c = search needs
-
-why-requires : tie.Need-why-requires
-why-requires c κs = search needs
-
 returns : tie.Need-returns
 unfolding psExtension
 returns c =
     let q = c .before .enum-told .given .1 in
-    ap refusal (c .why .ensures ∙ ap whyFetched q) ∙ so (off _ (got toldFetched _ _ _ _ (c .before .before .before .take-at .ensures) q))
+    ap refusal (c .why .ensures ∙ ap whyFetched q)
+    ∙ so (off _ (got toldFetched _ _ _ _ (c .before .before .before .take-at .ensures) q))
 
 take-at-requires-2 : tie.Need-take-at-requires-2
 take-at-requires-2 c κs =
-    let f = c .before .before in
-    (omega arith, omega arith, steady (got toldFetched _ _ _ _ (f .before .before .take-at .ensures) (f .sync .given .1)) (omega arith))
-
-enum-known-flag : tie.Need-enum-known-flag
-enum-known-flag c = search needs
-
-enum-told-2 : tie.Need-enum-told-2
-enum-told-2 c = search needs
-
-why-requires-2 : tie.Need-why-requires-2
-why-requires-2 c κs = search needs
+    let f = c .before .before in (
+      omega arith,
+      omega arith,
+      steady
+          (got toldFetched _ _ _ _ (f .before .before .take-at .ensures) (f .sync .given .1)) (omega arith),
+    )
 
 returns-2 : tie.Need-returns-2
 unfolding psExtension
@@ -50,7 +34,8 @@ returns-2 c =
     let f = i .before .before in
     ap refusal (c .why2 .ensures ∙ ap whyFetched q)
     ∙ so (on _ (got toldFetched _ _ _ _ (f .before .before .take-at .ensures) (f .sync .given .1))
-    (yes-way _ (eq-eqb _ 1352 (i .if1 .taken)) (off _ (got toldFetched _ _ _ _ (d .before .before .take-at2 .ensures) q))))
+    (yes-way _ (eq-eqb _ 1352 (i .if1 .taken))
+    (off _ (got toldFetched _ _ _ _ (d .before .before .take-at2 .ensures) q))))
 
 returns-3 : tie.Need-returns-3
 unfolding psExtension
@@ -59,27 +44,29 @@ returns-3 c =
     let i = g .before .before .before in
     let f = i .before .before in
     so (on _ (got toldFetched _ _ _ _ (f .before .before .take-at .ensures) (f .sync .given .1))
-    (yes-way _ (eq-eqb _ 1352 (i .if1 .taken)) (on _ (got toldFetched _ _ _ _ (g .before .before .take-at2 .ensures) (g .flag .given .1)) gives)))
+    (yes-way _ (eq-eqb _ 1352 (i .if1 .taken))
+    (on _ (got toldFetched _ _ _ _ (g .before .before .take-at2 .ensures) (g .flag .given .1)) gives)))
 
 returns-4 : tie.Need-returns-4
 unfolding psExtension
 returns-4 c =
     let f = c .before .before in
-    so (on _ (got toldFetched _ _ _ _ (f .before .before .take-at .ensures) (f .sync .given .1)) (no-way _ (ne-eqb _ 1352 (c .if1 .left)) gives))
+    so (on _ (got toldFetched _ _ _ _ (f .before .before .take-at .ensures) (f .sync .given .1))
+    (no-way _ (ne-eqb _ 1352 (c .if1 .left)) gives))
 
 pub ps-extension-spec : {M : Type 1} → statement M
 ps-extension-spec =
     tie.close
     (tie.spec
-    take-at-requires
-    enum-known-sync
-    enum-told
-    why-requires
+    (λ c κs. search needs)
+    (λ c. search needs)
+    (λ c. search needs)
+    (λ c κs. search needs)
     returns
     take-at-requires-2
-    enum-known-flag
-    enum-told-2
-    why-requires-2
+    (λ c. search needs)
+    (λ c. search needs)
+    (λ c κs. search needs)
     returns-2
     returns-3
     returns-4)

@@ -7,12 +7,6 @@ use Rattle.asc.specs.Asc.{psTail}
 use Rattle.asc.proofs.signalling.ps_tail.Statement.{statement}
 use Rattle.asc.proofs.signalling.ps_tail.Tie as tie
 
-left-of-requires : tie.Need-left-of-requires
-left-of-requires c κs = search needs
-
-ps-extension-requires : tie.Need-ps-extension-requires
-ps-extension-requires c κs = search needs
-
 returns : tie.Need-returns
 unfolding psTail
 returns c =
@@ -28,4 +22,8 @@ returns-2 c =
     so (placed _ (no-way _ (rw (← l .ensures) (lt-leb 12 (l .result) h)) gives))
 
 pub ps-tail-spec : {M : Type 1} → statement M
-ps-tail-spec = tie.close (tie.spec left-of-requires ps-extension-requires returns returns-2)
+ps-tail-spec = tie.close (tie.spec
+    (λ c κs. search needs)
+    (λ c κs. search needs)
+    returns
+    returns-2)

@@ -9,23 +9,12 @@ use Rattle.asc.specs.Asc.{syncExtension}
 use Rattle.asc.proofs.signalling.sync_extension.Statement.{statement}
 use Rattle.asc.proofs.signalling.sync_extension.Tie as tie
 
-take-at-requires : tie.Need-take-at-requires
-take-at-requires c κs = search needs
-
-enum-known-sync : tie.Need-enum-known-sync
-enum-known-sync c = search needs
-
-enum-told : tie.Need-enum-told
-enum-told c = search needs
-
-why-requires : tie.Need-why-requires
-why-requires c κs = search needs
-
 returns : tie.Need-returns
 unfolding syncExtension
 returns c =
     let q = c .before .enum-told .given .1 in
-    ap refusal (c .why .ensures ∙ ap whyFetched q) ∙ so (off _ (got toldFetched _ _ _ _ (c .before .before .before .take-at .ensures) q))
+    ap refusal (c .why .ensures ∙ ap whyFetched q)
+    ∙ so (off _ (got toldFetched _ _ _ _ (c .before .before .before .take-at .ensures) q))
 
 extension-type-requires : tie.Need-extension-type-requires
 extension-type-requires c κs =
@@ -43,16 +32,17 @@ returns-3 : tie.Need-returns-3
 unfolding syncExtension
 returns-3 c =
     let f = c .before .before in
-    so (on _ (got toldFetched _ _ _ _ (f .before .before .take-at .ensures) (f .sync .given .1)) (no-way _ (ne-eqb _ 695 (c .if1 .left)) gives))
+    so (on _ (got toldFetched _ _ _ _ (f .before .before .take-at .ensures) (f .sync .given .1))
+    (no-way _ (ne-eqb _ 695 (c .if1 .left)) gives))
 
 pub sync-extension-spec : {M : Type 1} → statement M
 sync-extension-spec =
     tie.close
     (tie.spec
-    take-at-requires
-    enum-known-sync
-    enum-told
-    why-requires
+    (λ c κs. search needs)
+    (λ c. search needs)
+    (λ c. search needs)
+    (λ c κs. search needs)
     returns
     extension-type-requires
     returns-2

@@ -7,12 +7,6 @@ use Rattle.asc.specs.Asc.{tail}
 use Rattle.asc.proofs.signalling.tail_of.Statement.{statement}
 use Rattle.asc.proofs.signalling.tail_of.Tie as tie
 
-left-of-requires : tie.Need-left-of-requires
-left-of-requires c κs = search needs
-
-sync-extension-requires : tie.Need-sync-extension-requires
-sync-extension-requires c κs = search needs
-
 returns : tie.Need-returns
 unfolding tail
 returns c =
@@ -28,4 +22,8 @@ returns-2 c =
     so (placed _ (no-way _ (rw (← l .ensures) (lt-leb 16 (l .result) h)) gives))
 
 pub tail-of-spec : {M : Type 1} → statement M
-tail-of-spec = tie.close (tie.spec left-of-requires sync-extension-requires returns returns-2)
+tail-of-spec = tie.close (tie.spec
+    (λ c κs. search needs)
+    (λ c κs. search needs)
+    returns
+    returns-2)

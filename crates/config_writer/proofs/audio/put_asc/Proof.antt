@@ -7,30 +7,6 @@ use borrow.Author.Needs.{needs}
 use Rattle.config_writer.proofs.audio.put_asc.Statement.{statement}
 use Rattle.config_writer.proofs.audio.put_asc.Tie as tie
 
-front-of-requires : tie.Need-front-of-requires
-front-of-requires c κs = search needs
-
-put-requires : tie.Need-put-requires
-put-requires c κs = search needs
-
-put-freq-requires : tie.Need-put-freq-requires
-put-freq-requires c κs = search needs
-
-put-requires-2 : tie.Need-put-requires-2
-put-requires-2 c κs = search needs
-
-put-under-requires : tie.Need-put-under-requires
-put-under-requires c κs = search needs
-
-put-flags-requires : tie.Need-put-flags-requires
-put-flags-requires c κs = search needs
-
-put-tail-requires : tie.Need-put-tail-requires
-put-tail-requires c κs = search needs
-
-same-length : tie.Need-same-length
-same-length c = search needs
-
 returns : tie.Need-returns
 unfolding ascBits
 returns c =
@@ -42,20 +18,32 @@ returns c =
     let front = freq .before .before .before .before in
     let x = front .before .before .before .before .args .c in
     let p = rw (front .before .front-of .ensures) at (front .put .ensures .1) in (
-      omega (arith, tail .put-tail .ensures .0, flags .put-flags .ensures .0, under .put-under .ensures .0, channels .put2 .ensures .0, freq .put-freq .ensures .0, front .put .ensures .0),
-      put-then p (put-then (freq .put-freq .ensures .1) (put-then (channels .put2 .ensures .1) (put-then (under .put-under .ensures .1) (put-three (bitsOf 1 (x .frame)) (bitsOf 1 (x .depends)) (bitsOf 1 (x .extension)) (flags .put-flags .ensures .1) (tail .put-tail .ensures .1))))),
+      omega (
+        arith,
+        tail .put-tail .ensures .0,
+        flags .put-flags .ensures .0,
+        under .put-under .ensures .0,
+        channels .put2 .ensures .0,
+        freq .put-freq .ensures .0,
+        front .put .ensures .0,
+      ),
+      put-then p (put-then (freq .put-freq .ensures .1)
+          (put-then (channels .put2 .ensures .1)
+          (put-then (under .put-under .ensures .1)
+          (put-three (bitsOf 1 (x .flag)) (bitsOf 1 (x .depends)) (bitsOf 1 (x .extension))
+          (flags .put-flags .ensures .1) (tail .put-tail .ensures .1))))),
     )
 
 pub put-asc-spec : {M : Type 1} → statement M
 put-asc-spec =
     tie.close
     (tie.spec
-    front-of-requires
-    put-requires
-    put-freq-requires
-    put-requires-2
-    put-under-requires
-    put-flags-requires
-    put-tail-requires
-    same-length
+    (λ c κs. search needs)
+    (λ c κs. search needs)
+    (λ c κs. search needs)
+    (λ c κs. search needs)
+    (λ c κs. search needs)
+    (λ c κs. search needs)
+    (λ c κs. search needs)
+    (λ c. search needs)
     returns)

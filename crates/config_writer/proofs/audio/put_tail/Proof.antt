@@ -7,45 +7,6 @@ use borrow.Author.Needs.{needs}
 use Rattle.config_writer.proofs.audio.put_tail.Statement.{statement}
 use Rattle.config_writer.proofs.audio.put_tail.Tie as tie
 
-enum-told : tie.Need-enum-told
-enum-told c = search needs
-
-enum-told-2 : tie.Need-enum-told-2
-enum-told-2 c = search needs
-
-enum-told-3 : tie.Need-enum-told-3
-enum-told-3 c = search needs
-
-enum-told-4 : tie.Need-enum-told-4
-enum-told-4 c = search needs
-
-put-sbr-requires : tie.Need-put-sbr-requires
-put-sbr-requires c κs = search needs
-
-enum-known-form : tie.Need-enum-known-form
-enum-known-form c = search needs
-
-put-sbr-requires-2 : tie.Need-put-sbr-requires-2
-put-sbr-requires-2 c κs = search needs
-
-put-freq-requires : tie.Need-put-freq-requires
-put-freq-requires c κs = search needs
-
-enum-known-form-2 : tie.Need-enum-known-form-2
-enum-known-form-2 c = search needs
-
-put-sbr-requires-3 : tie.Need-put-sbr-requires-3
-put-sbr-requires-3 c κs = search needs
-
-put-freq-requires-2 : tie.Need-put-freq-requires-2
-put-freq-requires-2 c κs = search needs
-
-put-requires : tie.Need-put-requires
-put-requires c κs = search needs
-
-put-requires-2 : tie.Need-put-requires-2
-put-requires-2 c κs = search needs
-
 returns : tie.Need-returns
 unfolding tailBits
 returns c = (omega arith, rw (c .enum-told .given .1) put-none)
@@ -58,27 +19,21 @@ returns-3 : tie.Need-returns-3
 unfolding tailBits
 returns-3 c = (omega arith, rw (c .enum-told3 .given .1) put-none)
 
-same-length : tie.Need-same-length
-same-length c = search needs
-
 returns-4 : tie.Need-returns-4
 unfolding tailBits
 returns-4 c =
     let p = c .before .before in
     (omega (arith, p .put-sbr .ensures .0), rw (p .before .before .enum-told4 .given .1) (p .put-sbr .ensures .1))
 
-same-length-2 : tie.Need-same-length-2
-same-length-2 c = search needs
-
 returns-5 : tie.Need-returns-5
 unfolding tailBits
 returns-5 c =
     let b = c .before .before in
-    let a = b .before .before .before .before in
-    (omega (arith, b .put-freq .ensures .0, a .put-sbr2 .ensures .0), rw (a .before .before .before .form .given .1) (put-three (bitsOf 11 695) (bitsOf 5 5) (bitsOf 1 1) (a .put-sbr2 .ensures .1) (b .put-freq .ensures .1)))
-
-same-length-3 : tie.Need-same-length-3
-same-length-3 c = search needs
+    let a = b .before .before .before .before in (
+      omega (arith, b .put-freq .ensures .0, a .put-sbr2 .ensures .0),
+      rw (a .before .before .before .form .given .1)
+          (put-three (bitsOf 11 695) (bitsOf 5 5) (bitsOf 1 1) (a .put-sbr2 .ensures .1) (b .put-freq .ensures .1)),
+    )
 
 returns-6 : tie.Need-returns-6
 unfolding tailBits
@@ -87,32 +42,36 @@ returns-6 c =
     let s = p .before .before .before .before in
     let b = s .before .before .before .before in
     let a = b .before .before .before .before in
-    let e = a .before .before .before .form2 .given .1 in
-    (omega (arith, p .put2 .ensures .0, s .put .ensures .0, b .put-freq2 .ensures .0, a .put-sbr3 .ensures .0), rw e (put-three (bitsOf 11 695) (bitsOf 5 5) (bitsOf 1 1) (a .put-sbr3 .ensures .1) (put-then (b .put-freq2 .ensures .1) (put-then (s .put .ensures .1) (p .put2 .ensures .1)))))
+    let e = a .before .before .before .form2 .given .1 in (
+      omega (arith, p .put2 .ensures .0, s .put .ensures .0, b .put-freq2 .ensures .0, a .put-sbr3 .ensures .0),
+      rw e
+          (put-three (bitsOf 11 695) (bitsOf 5 5) (bitsOf 1 1) (a .put-sbr3 .ensures .1)
+          (put-then (b .put-freq2 .ensures .1) (put-then (s .put .ensures .1) (p .put2 .ensures .1)))),
+    )
 
 pub put-tail-spec : {M : Type 1} → statement M
 put-tail-spec =
     tie.close
     (tie.spec
-    enum-told
-    enum-told-2
-    enum-told-3
-    enum-told-4
-    put-sbr-requires
-    enum-known-form
-    put-sbr-requires-2
-    put-freq-requires
-    enum-known-form-2
-    put-sbr-requires-3
-    put-freq-requires-2
-    put-requires
-    put-requires-2
+    (λ c. search needs)
+    (λ c. search needs)
+    (λ c. search needs)
+    (λ c. search needs)
+    (λ c κs. search needs)
+    (λ c. search needs)
+    (λ c κs. search needs)
+    (λ c κs. search needs)
+    (λ c. search needs)
+    (λ c κs. search needs)
+    (λ c κs. search needs)
+    (λ c κs. search needs)
+    (λ c κs. search needs)
     returns
     returns-2
     returns-3
-    same-length
+    (λ c. search needs)
     returns-4
-    same-length-2
+    (λ c. search needs)
     returns-5
-    same-length-3
+    (λ c. search needs)
     returns-6)

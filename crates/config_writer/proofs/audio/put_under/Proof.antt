@@ -6,59 +6,29 @@ use borrow.Author.Needs.{needs}
 use Rattle.config_writer.proofs.audio.put_under.Statement.{statement}
 use Rattle.config_writer.proofs.audio.put_under.Tie as tie
 
-enum-told : tie.Need-enum-told
-enum-told c = search needs
-
-enum-known-form : tie.Need-enum-known-form
-enum-known-form c = search needs
-
-put-freq-requires : tie.Need-put-freq-requires
-put-freq-requires c κs = search needs
-
-put-requires : tie.Need-put-requires
-put-requires c κs = search needs
-
-enum-known-form-2 : tie.Need-enum-known-form-2
-enum-known-form-2 c = search needs
-
-put-freq-requires-2 : tie.Need-put-freq-requires-2
-put-freq-requires-2 c κs = search needs
-
-put-requires-2 : tie.Need-put-requires-2
-put-requires-2 c κs = search needs
-
-enum-told-2 : tie.Need-enum-told-2
-enum-told-2 c = search needs
-
-enum-told-3 : tie.Need-enum-told-3
-enum-told-3 c = search needs
-
-enum-told-4 : tie.Need-enum-told-4
-enum-told-4 c = search needs
-
 returns : tie.Need-returns
 unfolding underBits
 returns c = (omega arith, rw (c .enum-told .given .1) put-none)
-
-same-length : tie.Need-same-length
-same-length c = search needs
 
 returns-2 : tie.Need-returns-2
 unfolding underBits
 returns-2 c =
     let b = c .before .before in
-    let a = b .before .before .before .before in
-    (omega (arith, b .put .ensures .0, a .put-freq .ensures .0), rw (a .before .before .before .form .given .1) (put-then (a .put-freq .ensures .1) (b .put .ensures .1)))
-
-same-length-2 : tie.Need-same-length-2
-same-length-2 c = search needs
+    let a = b .before .before .before .before in (
+      omega (arith, b .put .ensures .0, a .put-freq .ensures .0),
+      rw (a .before .before .before .form .given .1)
+          (put-then (a .put-freq .ensures .1) (b .put .ensures .1)),
+    )
 
 returns-3 : tie.Need-returns-3
 unfolding underBits
 returns-3 c =
     let b = c .before .before in
-    let a = b .before .before .before .before in
-    (omega (arith, b .put2 .ensures .0, a .put-freq2 .ensures .0), rw (a .before .before .before .form2 .given .1) (put-then (a .put-freq2 .ensures .1) (b .put2 .ensures .1)))
+    let a = b .before .before .before .before in (
+      omega (arith, b .put2 .ensures .0, a .put-freq2 .ensures .0),
+      rw (a .before .before .before .form2 .given .1)
+          (put-then (a .put-freq2 .ensures .1) (b .put2 .ensures .1)),
+    )
 
 returns-4 : tie.Need-returns-4
 unfolding underBits
@@ -76,20 +46,20 @@ pub put-under-spec : {M : Type 1} → statement M
 put-under-spec =
     tie.close
     (tie.spec
-    enum-told
-    enum-known-form
-    put-freq-requires
-    put-requires
-    enum-known-form-2
-    put-freq-requires-2
-    put-requires-2
-    enum-told-2
-    enum-told-3
-    enum-told-4
+    (λ c. search needs)
+    (λ c. search needs)
+    (λ c κs. search needs)
+    (λ c κs. search needs)
+    (λ c. search needs)
+    (λ c κs. search needs)
+    (λ c κs. search needs)
+    (λ c. search needs)
+    (λ c. search needs)
+    (λ c. search needs)
     returns
-    same-length
+    (λ c. search needs)
     returns-2
-    same-length-2
+    (λ c. search needs)
     returns-3
     returns-4
     returns-5

@@ -3,48 +3,6 @@ use borrow.Author.Needs.{needs}
 use Rattle.record_words.proofs.lay.form_words.Statement.{statement}
 use Rattle.record_words.proofs.lay.form_words.Tie as tie
 
-enum-told : tie.Need-enum-told
-enum-told c = search needs
-
-enum-known-f : tie.Need-enum-known-f
-enum-known-f c = search needs
-
-freq-choice-requires : tie.Need-freq-choice-requires
-freq-choice-requires c κs = search needs
-
-freq-number-requires : tie.Need-freq-number-requires
-freq-number-requires c κs = search needs
-
-enum-known-f-2 : tie.Need-enum-known-f-2
-enum-known-f-2 c = search needs
-
-freq-choice-requires-2 : tie.Need-freq-choice-requires-2
-freq-choice-requires-2 c κs = search needs
-
-freq-number-requires-2 : tie.Need-freq-number-requires-2
-freq-number-requires-2 c κs = search needs
-
-enum-told-2 : tie.Need-enum-told-2
-enum-told-2 c = search needs
-
-enum-known-f-3 : tie.Need-enum-known-f-3
-enum-known-f-3 c = search needs
-
-freq-choice-requires-3 : tie.Need-freq-choice-requires-3
-freq-choice-requires-3 c κs = search needs
-
-freq-number-requires-3 : tie.Need-freq-number-requires-3
-freq-number-requires-3 c κs = search needs
-
-enum-known-f-4 : tie.Need-enum-known-f-4
-enum-known-f-4 c = search needs
-
-freq-choice-requires-4 : tie.Need-freq-choice-requires-4
-freq-choice-requires-4 c κs = search needs
-
-freq-number-requires-4 : tie.Need-freq-number-requires-4
-freq-number-requires-4 c κs = search needs
-
 returns : tie.Need-returns
 returns c = rw (c .enum-told .given .1)
 
@@ -67,20 +25,20 @@ pub form-words-spec : {M : Type 1} → statement M
 form-words-spec =
     tie.close
     (tie.spec
-    enum-told
-    enum-known-f
-    freq-choice-requires
-    freq-number-requires
-    enum-known-f-2
-    freq-choice-requires-2
-    freq-number-requires-2
-    enum-told-2
-    enum-known-f-3
-    freq-choice-requires-3
-    freq-number-requires-3
-    enum-known-f-4
-    freq-choice-requires-4
-    freq-number-requires-4
+    (λ c. search needs)
+    (λ c. search needs)
+    (λ c κs. search needs)
+    (λ c κs. search needs)
+    (λ c. search needs)
+    (λ c κs. search needs)
+    (λ c κs. search needs)
+    (λ c. search needs)
+    (λ c. search needs)
+    (λ c κs. search needs)
+    (λ c κs. search needs)
+    (λ c. search needs)
+    (λ c κs. search needs)
+    (λ c κs. search needs)
     returns
     returns-2
     returns-3

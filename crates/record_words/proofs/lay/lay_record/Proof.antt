@@ -9,12 +9,6 @@ use Rattle.record_words.proofs.lay.lay_record.Tie as tie
 returns : tie.Need-returns
 returns c = (sym (lt-leb 250 _ (c .if1 .taken)), laid-none _ _ (c .if1 .taken))
 
-lay-all-requires : tie.Need-lay-all-requires
-lay-all-requires c κs = search needs
-
-same-length : tie.Need-same-length
-same-length c = search needs
-
 returns-2 : tie.Need-returns-2
 returns-2 c =
     let p = c .before .before .lay-all .ensures in
@@ -22,4 +16,8 @@ returns-2 c =
     (sym (le-leb 250 _ h), laid-all _ _ _ _ (p .1) (p .0) h)
 
 pub lay-record-spec : {M : Type 1} → statement M
-lay-record-spec = tie.close (tie.spec returns lay-all-requires same-length returns-2)
+lay-record-spec = tie.close (tie.spec
+    returns
+    (λ c κs. search needs)
+    (λ c. search needs)
+    returns-2)

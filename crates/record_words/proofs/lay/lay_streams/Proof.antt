@@ -13,28 +13,14 @@ use Rattle.record_words.proofs.lay.lay_streams.Tie as tie
 
 abbrev Inv-loop : tie.InvT-loop
 Inv-loop out₀ at streams to₀ i₀ out to i =
-    (i ≤ 16) × (to ≡ at + 14 * i) × (length out ≡ length out₀) × ToStore out₀ at (streamsWords streams) out to (streamsWords (drop i streams))
+    (i ≤ 16) × (to ≡ at + 14 * i) × (length out ≡ length out₀)
+    × ToStore out₀ at (streamsWords streams) out to (streamsWords (drop i streams))
 
 abbrev μ-loop : tie.MeasureT-loop
 μ-loop out₀ at streams to₀ i₀ out to i = 16 - i
 
 loop-holds : tie.Need-loop-holds Inv-loop μ-loop
 loop-holds c = (omega arith, omega arith, refl, store-all)
-
-mul-s : tie.Need-mul-s Inv-loop μ-loop
-mul-s c = search needs
-
-array-copy-out-s : tie.Need-array-copy-out-s Inv-loop μ-loop
-array-copy-out-s c = search needs
-
-lay-stream-requires : tie.Need-lay-stream-requires Inv-loop μ-loop
-lay-stream-requires c κs = search needs
-
-add-i : tie.Need-add-i Inv-loop μ-loop
-add-i c = search needs
-
-loop-less : tie.Need-loop-less Inv-loop μ-loop
-loop-less c = search needs
 
 loop-again : tie.Need-loop-again Inv-loop μ-loop
 loop-again c =
@@ -65,11 +51,11 @@ lay-streams-spec =
     Inv-loop
     μ-loop
     loop-holds
-    mul-s
-    array-copy-out-s
-    lay-stream-requires
-    add-i
-    loop-less
+    (λ c. search needs)
+    (λ c. search needs)
+    (λ c κs. search needs)
+    (λ c. search needs)
+    (λ c. search needs)
     loop-again
     same-length
     returns)

@@ -21,7 +21,16 @@ returns-5 : tie.Need-returns-5
 returns-5 c = let e : c .before .args .tag ≡ 4 = omega arith in rw e
 
 returns-6 : tie.Need-returns-6
-returns-6 c = let t = c .before .args .tag in rw (ne-eqb t 0 (λ e. omega arith), ne-eqb t 1 (λ e. omega arith), ne-eqb t 2 (λ e. omega arith), ne-eqb t 3 (λ e. omega arith), ne-eqb t 4 (λ e. omega arith))
+returns-6 c =
+    let t = c .before .args .tag in
+    rw (
+      ne-eqb t 0 (λ e. omega arith),
+      ne-eqb t 1 (λ e. omega arith),
+      ne-eqb t 2 (λ e. omega arith),
+      ne-eqb t 3
+          (λ e. omega arith),
+      ne-eqb t 4 (λ e. omega arith),
+    )
 
 pub form-from-spec : {M : Type 1} → statement M
 form-from-spec = tie.close (tie.spec returns returns-2 returns-3 returns-4 returns-5 returns-6)

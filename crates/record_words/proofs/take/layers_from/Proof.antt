@@ -20,27 +20,6 @@ abbrev μ-loop : tie.MeasureT-loop
 loop-holds : tie.Need-loop-holds Inv-loop μ-loop
 loop-holds c = (search needs, tab-none _ _)
 
-add-layers : tie.Need-add-layers Inv-loop μ-loop
-add-layers c = search needs
-
-mul-layers : tie.Need-mul-layers Inv-loop μ-loop
-mul-layers c = search needs
-
-shared-slice-read-layers : tie.Need-shared-slice-read-layers Inv-loop μ-loop
-shared-slice-read-layers c = search needs
-
-mul-layers-2 : tie.Need-mul-layers-2 Inv-loop μ-loop
-mul-layers-2 c = search needs
-
-array-write-layers : tie.Need-array-write-layers Inv-loop μ-loop
-array-write-layers c = search needs
-
-add-p : tie.Need-add-p Inv-loop μ-loop
-add-p c = search needs
-
-loop-less : tie.Need-loop-less Inv-loop μ-loop
-loop-less c = search needs
-
 loop-again : tie.Need-loop-again Inv-loop μ-loop
 loop-again c = let l = c .before .before .loop in (search needs, rw (l .inv .1) (tab-more _ _ _ _ (omega arith) refl))
 
@@ -57,12 +36,12 @@ layers-from-spec =
     Inv-loop
     μ-loop
     loop-holds
-    add-layers
-    mul-layers
-    shared-slice-read-layers
-    mul-layers-2
-    array-write-layers
-    add-p
-    loop-less
+    (λ c. search needs)
+    (λ c. search needs)
+    (λ c. search needs)
+    (λ c. search needs)
+    (λ c. search needs)
+    (λ c. search needs)
+    (λ c. search needs)
     loop-again
     returns)

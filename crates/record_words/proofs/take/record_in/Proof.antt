@@ -5,39 +5,29 @@ use borrow.Author.Needs.{needs}
 use Rattle.record_words.proofs.take.record_in.Statement.{statement}
 use Rattle.record_words.proofs.take.record_in.Tie as tie
 
-no-record-requires : tie.Need-no-record-requires
-no-record-requires c κs = search needs
-
 returns : tie.Need-returns
 returns c = c .no-record .ensures ∙ sym (too-few _ (c .before .if1 .taken))
-
-record-from-requires : tie.Need-record-from-requires
-record-from-requires c κs = search needs
-
-has-words-requires : tie.Need-has-words-requires
-has-words-requires c κs = search needs
 
 returns-2 : tie.Need-returns-2
 returns-2 c =
     let f = c .before .before in
-    sym (is-record _ _ (sym (f .record-from .ensures)) (f .before .if1 .left) (sym (c .before .has-words .ensures) ∙ c .if2 .taken))
-
-no-record-requires-2 : tie.Need-no-record-requires-2
-no-record-requires-2 c κs = search needs
+    sym (is-record _ _ (sym (f .record-from .ensures)) (f .before .if1 .left) (sym (c .before .has-words .ensures)
+    ∙ c .if2 .taken))
 
 returns-3 : tie.Need-returns-3
 returns-3 c =
     let f = c .before .before .before in
-    c .no-record2 .ensures ∙ sym (is-none _ _ (sym (f .record-from .ensures)) (f .before .if1 .left) (sym (c .before .before .has-words .ensures) ∙ c .before .if2 .left))
+    c .no-record2 .ensures ∙ sym (is-none _ _ (sym (f .record-from .ensures)) (f .before .if1 .left)
+    (sym (c .before .before .has-words .ensures) ∙ c .before .if2 .left))
 
 pub record-in-spec : {M : Type 1} → statement M
 record-in-spec =
     tie.close
     (tie.spec
-    no-record-requires
+    (λ c κs. search needs)
     returns
-    record-from-requires
-    has-words-requires
+    (λ c κs. search needs)
+    (λ c κs. search needs)
     returns-2
-    no-record-requires-2
+    (λ c κs. search needs)
     returns-3)

@@ -3,14 +3,11 @@ use borrow.Author.Needs.{needs}
 use Rattle.records.proofs.rules.blank_stream.Statement.{statement}
 use Rattle.records.proofs.rules.blank_stream.Tie as tie
 
-blank-freq-requires : tie.Need-blank-freq-requires
-blank-freq-requires c κs = search needs
-
-blank-form-requires : tie.Need-blank-form-requires
-blank-form-requires c κs = search needs
-
 returns : tie.Need-returns
 returns c = rw (c .before .blank-freq .ensures, c .blank-form .ensures)
 
 pub blank-stream-spec : {M : Type 1} → statement M
-blank-stream-spec = tie.close (tie.spec blank-freq-requires blank-form-requires returns)
+blank-stream-spec = tie.close (tie.spec
+    (λ c κs. search needs)
+    (λ c κs. search needs)
+    returns)

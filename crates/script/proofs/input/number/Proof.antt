@@ -8,14 +8,8 @@ use Rattle.script.proofs.input.number.Tie as tie
 returns : tie.Need-returns
 returns c = search needs
 
-array-borrow-prefix-small : tie.Need-array-borrow-prefix-small
-array-borrow-prefix-small c = search needs
-
 slice-aggregate-read-full : tie.Need-slice-aggregate-read-full
 slice-aggregate-read-full c = simp length-take (omega arith)
-
-read-full-requires : tie.Need-read-full-requires
-read-full-requires c κs = search needs
 
 returns-2 : tie.Need-returns-2
 returns-2 c = search needs
@@ -24,10 +18,8 @@ array-share-prefix-small : tie.Need-array-share-prefix-small
 array-share-prefix-small c = simp length-append (omega (arith, c .before .before .read-full .ensures))
 
 slice-aggregate-value-of : tie.Need-slice-aggregate-value-of
-slice-aggregate-value-of c = simp (length-take, length-append) (omega (arith, c .before .before .before .read-full .ensures))
-
-value-of-requires : tie.Need-value-of-requires
-value-of-requires c κs = search needs
+slice-aggregate-value-of c =
+    simp (length-take, length-append) (omega (arith, c .before .before .before .read-full .ensures))
 
 returns-3 : tie.Need-returns-3
 returns-3 c = search needs
@@ -37,11 +29,11 @@ number-spec =
     tie.close
     (tie.spec
     returns
-    array-borrow-prefix-small
+    (λ c. search needs)
     slice-aggregate-read-full
-    read-full-requires
+    (λ c κs. search needs)
     returns-2
     array-share-prefix-small
     slice-aggregate-value-of
-    value-of-requires
+    (λ c κs. search needs)
     returns-3)

@@ -5,29 +5,14 @@ use borrow.Author.Needs.{needs}
 use Rattle.script.proofs.input.take.Statement.{statement}
 use Rattle.script.proofs.input.take.Tie as tie
 
-number-requires : tie.Need-number-requires
-number-requires c κs = search needs
-
 returns : tie.Need-returns
 returns c = search needs
-
-slice-relend-prefix-read-full : tie.Need-slice-relend-prefix-read-full
-slice-relend-prefix-read-full c = search needs
 
 slice-aggregate-read-full : tie.Need-slice-aggregate-read-full
 slice-aggregate-read-full c = simp length-take (omega arith)
 
-read-full-requires : tie.Need-read-full-requires
-read-full-requires c κs = search needs
-
-same-length : tie.Need-same-length
-same-length c = search needs
-
 returns-2 : tie.Need-returns-2
 returns-2 c = search needs
-
-same-length-2 : tie.Need-same-length-2
-same-length-2 c = search needs
 
 returns-3 : tie.Need-returns-3
 returns-3 c = search needs
@@ -36,12 +21,12 @@ pub take-spec : {M : Type 1} → statement M
 take-spec =
     tie.close
     (tie.spec
-    number-requires
+    (λ c κs. search needs)
     returns
-    slice-relend-prefix-read-full
+    (λ c. search needs)
     slice-aggregate-read-full
-    read-full-requires
-    same-length
+    (λ c κs. search needs)
+    (λ c. search needs)
     returns-2
-    same-length-2
+    (λ c. search needs)
     returns-3)

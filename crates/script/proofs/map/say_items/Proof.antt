@@ -13,21 +13,6 @@ abbrev μ-loop : tie.MeasureT-loop
 loop-holds : tie.Need-loop-holds Inv-loop μ-loop
 loop-holds c = search needs
 
-cast-say-item : tie.Need-cast-say-item Inv-loop μ-loop
-cast-say-item c = search needs
-
-mul-say-item : tie.Need-mul-say-item Inv-loop μ-loop
-mul-say-item c = search needs
-
-say-item-requires : tie.Need-say-item-requires Inv-loop μ-loop
-say-item-requires c κs = search needs
-
-add-i : tie.Need-add-i Inv-loop μ-loop
-add-i c = search needs
-
-loop-less : tie.Need-loop-less Inv-loop μ-loop
-loop-less c = search needs
-
 loop-again : tie.Need-loop-again Inv-loop μ-loop
 loop-again c = search needs
 
@@ -41,10 +26,10 @@ say-items-spec =
     Inv-loop
     μ-loop
     loop-holds
-    cast-say-item
-    mul-say-item
-    say-item-requires
-    add-i
-    loop-less
+    (λ c. search needs)
+    (λ c κs. search needs)
+    (λ c κs. search needs)
+    (λ c. search needs)
+    (λ c. search needs)
     loop-again
     returns)

@@ -20,23 +20,9 @@ abbrev μ-loop : tie.MeasureT-loop
 loop-holds : tie.Need-loop-holds Inv-loop μ-loop
 loop-holds c = (search needs, search needs, tab-none _ _)
 
-mul-map : tie.Need-mul-map Inv-loop μ-loop
-mul-map c = search needs
-
-slice-write-map : tie.Need-slice-write-map Inv-loop μ-loop
-slice-write-map c = search needs
-
-add-i : tie.Need-add-i Inv-loop μ-loop
-add-i c = search needs
-
-loop-less : tie.Need-loop-less Inv-loop μ-loop
-loop-less c = search needs
-
 loop-again : tie.Need-loop-again Inv-loop μ-loop
-loop-again c = let l = c .before .loop in (search needs, search needs, rw (l .inv .2) (tab-more _ _ _ _ (omega arith) refl))
-
-same-length : tie.Need-same-length Inv-loop μ-loop
-same-length c = search needs
+loop-again c =
+    let l = c .before .loop in (search needs, search needs, rw (l .inv .2) (tab-more _ _ _ _ (omega arith) refl))
 
 returns : tie.Need-returns Inv-loop μ-loop
 returns c =
@@ -51,10 +37,10 @@ set-all-spec =
     Inv-loop
     μ-loop
     loop-holds
-    mul-map
-    slice-write-map
-    add-i
-    loop-less
+    (λ c. search needs)
+    (λ c. search needs)
+    (λ c. search needs)
+    (λ c. search needs)
     loop-again
-    same-length
+    (λ c. search needs)
     returns)

@@ -16,7 +16,12 @@ use Rattle.writer.proofs.measures.measure_all.Statement.{statement}
 use Rattle.writer.proofs.measures.measure_all.Tie as tie
 
 abbrev Inv-loop : tie.InvT-loop
-Inv-loop streams count n ns fits₀ lengths₀ payload₀ from₀ left₀ fits lengths payload from left = (left ≤ n) × (from + left * count ≡ n * count) × (lengths ≤ 269488160 * (n - left)) × (payload ≤ 68719476736 * (n - left)) × ((fits && slotsFit left (take count streams) (drop from ns)) ≡ slotsFit n (take count streams) ns) × (lengths + lengthBytes left (take count streams) (drop from ns) ≡ lengthBytes n (take count streams) ns) × (payload + sumOf (left * count) (drop from ns) ≡ sumOf (n * count) ns)
+Inv-loop streams count n ns fits₀ lengths₀ payload₀ from₀ left₀ fits lengths payload from left =
+    (left ≤ n) × (from + left * count ≡ n * count) × (lengths ≤ 269488160 * (n - left))
+    × (payload ≤ 68719476736 * (n - left))
+    × ((fits && slotsFit left (take count streams) (drop from ns)) ≡ slotsFit n (take count streams) ns)
+    × (lengths + lengthBytes left (take count streams) (drop from ns) ≡ lengthBytes n (take count streams) ns)
+    × (payload + sumOf (left * count) (drop from ns) ≡ sumOf (n * count) ns)
 
 abbrev μ-loop : tie.MeasureT-loop
 μ-loop streams count n ns fits₀ lengths₀ payload₀ from₀ left₀ fits lengths payload from left = left
@@ -34,21 +39,6 @@ measure-row-requires c κs =
     let q : l .from + l .left * a .count ≡ a .n * a .count = l .inv .1 in
     (s .pre .0, omega (arith, e, p, q))
 
-add-lengths : tie.Need-add-lengths Inv-loop μ-loop
-add-lengths c = search needs
-
-add-payload : tie.Need-add-payload Inv-loop μ-loop
-add-payload c = search needs
-
-add-from : tie.Need-add-from Inv-loop μ-loop
-add-from c = search needs
-
-sub-left : tie.Need-sub-left Inv-loop μ-loop
-sub-left c = search needs
-
-loop-less : tie.Need-loop-less Inv-loop μ-loop
-loop-less c = search needs
-
 loop-again : tie.Need-loop-again Inv-loop μ-loop
 loop-again c =
     let r = c .before .before .before in
@@ -62,9 +52,13 @@ loop-again c =
     let f = all-fits-turn (a .streams) (a .count) (a .ns .now) m (l .left - 1) (l .from) in
     let y = all-bytes-turn (a .streams) (a .count) (a .ns .now) m (l .left - 1) (l .from) in
     let z = all-sum-turn (a .streams) (a .count) (a .ns .now) m (l .left - 1) (l .from) in
-    let x : r .measure-row .result ≡ measureOf (take (a .count) (a .streams)) (drop (l .from) (a .ns .now)) = r .measure-row .ensures .0 in
-    let u : r .measure-row .result .lengths ≡ rowBytes (take (a .count) (a .streams)) (drop (l .from) (a .ns .now)) = ap (λ (w : Measure). w .lengths) x in
-    let v : r .measure-row .result .payload ≡ sumOf (a .count) (drop (l .from) (a .ns .now)) = ap (λ (w : Measure). w .payload) x ∙ rw (length-take-le (a .count) (a .streams) m) in
+    let x : r .measure-row .result
+    ≡ measureOf (take (a .count) (a .streams)) (drop (l .from) (a .ns .now)) = r .measure-row .ensures .0 in
+    let u : r .measure-row .result .lengths
+    ≡ rowBytes (take (a .count) (a .streams)) (drop (l .from) (a .ns .now)) = ap (λ (w : Measure). w .lengths) x in
+    let v : r .measure-row .result .payload
+    ≡ sumOf (a .count) (drop (l .from) (a .ns .now)) =
+    ap (λ (w : Measure). w .payload) x ∙ rw (length-take-le (a .count) (a .streams) m) in
     let i = rw q at (l .inv .5) in
     let j = rw q at (l .inv .6) in (
       omega arith,
@@ -83,8 +77,11 @@ returns c =
     let a = s .args in
     let e : l .left ≡ 0 = omega arith in
     let k : length (a .streams) ≡ 16 = search needs in
-    let i = rw e at (l .inv) in
-    (all-measured (a .streams) (a .count) (a .n) (a .ns .now) (l .from) (omega (arith, k, s .pre .0)) (i .4) (i .5) (i .6), (omega (arith, l .inv .2, s .pre .1), omega (arith, l .inv .3, s .pre .1)))
+    let i = rw e at (l .inv) in (
+      all-measured (a .streams) (a .count) (a .n) (a .ns .now) (l .from) (omega (arith, k, s .pre .0)) (i .4) (i .5)
+          (i .6),
+      (omega (arith, l .inv .2, s .pre .1), omega (arith, l .inv .3, s .pre .1)),
+    )
 
 pub measure-all-spec : {M : Type 1} → statement M
 measure-all-spec =
@@ -94,10 +91,10 @@ measure-all-spec =
     μ-loop
     loop-holds
     measure-row-requires
-    add-lengths
-    add-payload
-    add-from
-    sub-left
-    loop-less
+    (λ c. search needs)
+    (λ c. search needs)
+    (λ c. search needs)
+    (λ c. search needs)
+    (λ c. search needs)
     loop-again
     returns)

@@ -15,7 +15,13 @@ use Rattle.writer.proofs.measures.measure_row.Statement.{statement}
 use Rattle.writer.proofs.measures.measure_row.Tie as tie
 
 abbrev Inv-loop : tie.InvT-loop
-Inv-loop count ns from streams fits₀ lengths₀ payload₀ i₀ fits lengths payload i = (i ≤ count) × (lengths ≤ 16843010 * i) × (payload ≤ 4294967295 * i) × ((fits && rowFits (drop i (take count streams)) (drop (from + i) ns)) ≡ rowFits (take count streams) (drop from ns)) × (lengths + rowBytes (drop i (take count streams)) (drop (from + i) ns) ≡ rowBytes (take count streams) (drop from ns)) × (payload + sumOf (count - i) (drop (from + i) ns) ≡ sumOf count (drop from ns))
+Inv-loop count ns from streams fits₀ lengths₀ payload₀ i₀ fits lengths payload i =
+    (i ≤ count) × (lengths ≤ 16843010 * i) × (payload ≤ 4294967295 * i)
+    × ((fits && rowFits (drop i (take count streams)) (drop (from + i) ns))
+    ≡ rowFits (take count streams) (drop from ns))
+    × (lengths + rowBytes (drop i (take count streams)) (drop (from + i) ns)
+    ≡ rowBytes (take count streams) (drop from ns))
+    × (payload + sumOf (count - i) (drop (from + i) ns) ≡ sumOf count (drop from ns))
 
 abbrev μ-loop : tie.MeasureT-loop
 μ-loop count ns from streams fits₀ lengths₀ payload₀ i₀ fits lengths payload i = count - i
@@ -27,41 +33,25 @@ loop-holds c =
     let n : a .count - 0 ≡ a .count = omega arith in
     (omega arith, omega arith, omega arith, rw e, rw e (omega arith), rw (e, n) (omega arith))
 
-mul-s : tie.Need-mul-s Inv-loop μ-loop
-mul-s c = search needs
-
-array-copy-out-s : tie.Need-array-copy-out-s Inv-loop μ-loop
-array-copy-out-s c = search needs
-
-add-n : tie.Need-add-n Inv-loop μ-loop
-add-n c = search needs
-
-mul-n : tie.Need-mul-n Inv-loop μ-loop
-mul-n c = search needs
-
-shared-slice-read-n : tie.Need-shared-slice-read-n Inv-loop μ-loop
-shared-slice-read-n c = search needs
-
-slot-fits-requires : tie.Need-slot-fits-requires Inv-loop μ-loop
-slot-fits-requires c κs = search needs
-
-slot-bytes-requires : tie.Need-slot-bytes-requires Inv-loop μ-loop
-slot-bytes-requires c κs = search needs
-
-add-lengths : tie.Need-add-lengths Inv-loop μ-loop
-add-lengths c = search needs
-
 cast-payload : tie.Need-cast-payload Inv-loop μ-loop
-cast-payload c = omega (arith, c .before .before .shared-slice-known2 .given (c .before .before .before .before .before .before .before .args .from + c .before .before .before .before .before .loop .i))
+cast-payload c =
+    omega (
+      arith,
+      c .before .before .shared-slice-known2 .given
+          (c .before .before .before .before .before .before .before .args .from
+          + c .before .before .before .before .before .loop .i),
+    )
 
 add-payload : tie.Need-add-payload Inv-loop μ-loop
-add-payload c = omega (arith, c .before .before .before .before .before .loop .inv, c .before .before .before .before .before .before .before .pre, c .before .before .shared-slice-known2 .given (c .before .before .before .before .before .before .before .args .from + c .before .before .before .before .before .loop .i))
-
-add-i : tie.Need-add-i Inv-loop μ-loop
-add-i c = search needs
-
-loop-less : tie.Need-loop-less Inv-loop μ-loop
-loop-less c = search needs
+add-payload c =
+    omega (
+      arith,
+      c .before .before .before .before .before .loop .inv,
+      c .before .before .before .before .before .before .before .pre,
+      c .before .before .shared-slice-known2 .given
+          (c .before .before .before .before .before .before .before .args .from
+          + c .before .before .before .before .before .loop .i),
+    )
 
 loop-again : tie.Need-loop-again Inv-loop μ-loop
 loop-again c =
@@ -90,8 +80,10 @@ returns c =
     let a = s .args in
     let e : l .i ≡ a .count = omega arith in
     let k : length (a .t1) ≡ 16 = search needs in
-    let i = rw e at (l .inv) in
-    (row-measured (a .t1) (a .count) (a .ns .now) (a .from) (omega (arith, k, s .pre)) (i .3) (i .4) (i .5), (omega (arith, l .inv, s .pre), omega (arith, l .inv, s .pre)))
+    let i = rw e at (l .inv) in (
+      row-measured (a .t1) (a .count) (a .ns .now) (a .from) (omega (arith, k, s .pre)) (i .3) (i .4) (i .5),
+      (omega (arith, l .inv, s .pre), omega (arith, l .inv, s .pre)),
+    )
 
 pub measure-row-spec : {M : Type 1} → statement M
 measure-row-spec =
@@ -100,17 +92,17 @@ measure-row-spec =
     Inv-loop
     μ-loop
     loop-holds
-    mul-s
-    array-copy-out-s
-    add-n
-    mul-n
-    shared-slice-read-n
-    slot-fits-requires
-    slot-bytes-requires
-    add-lengths
+    (λ c. search needs)
+    (λ c. search needs)
+    (λ c. search needs)
+    (λ c. search needs)
+    (λ c. search needs)
+    (λ c κs. search needs)
+    (λ c κs. search needs)
+    (λ c. search needs)
     cast-payload
     add-payload
-    add-i
-    loop-less
+    (λ c. search needs)
+    (λ c. search needs)
     loop-again
     returns)

@@ -5,12 +5,6 @@ use borrow.Author.Needs.{needs}
 use Rattle.writer.proofs.measures.slot_bytes.Statement.{statement}
 use Rattle.writer.proofs.measures.slot_bytes.Tie as tie
 
-cast-result : tie.Need-cast-result
-cast-result c = search needs
-
-add-result : tie.Need-add-result
-add-result c = search needs
-
 returns : tie.Need-returns
 returns c = (rw (eq-eqb (c .before .before .args .s .kind) 0 (c .if1 .taken)), omega arith)
 
@@ -18,4 +12,8 @@ returns-2 : tie.Need-returns-2
 returns-2 c = (rw (ne-eqb (c .before .before .args .s .kind) 0 (c .if1 .left)), omega arith)
 
 pub slot-bytes-spec : {M : Type 1} → statement M
-slot-bytes-spec = tie.close (tie.spec cast-result add-result returns returns-2)
+slot-bytes-spec = tie.close (tie.spec
+    (λ c. search needs)
+    (λ c. search needs)
+    returns
+    returns-2)

@@ -1,0 +1,27 @@
+-- The theorem of each claim of specs/Claims.antt.
+use mathlib.Core.Path.{sym, _∙_}
+use native.Mathlib.Omega.{arith}
+use lib.ListN.{length}
+use Rattle.capture.specs.Frames.{start}
+use Rattle.capture.specs.Claims.{FramesAreAll, NextIsInside, SittingsAreOne, NumbersInOrder, BlocksAreWhole}
+use Rattle.capture.specs.Claims.{AdvancedOnce}
+use Rattle.capture.proofs.Frames.{all-frames, next-inside, sittings, numbered}
+use Rattle.capture.proofs.Blocks.{whole}
+
+pub frames-are-all : FramesAreAll
+frames-are-all s room more c = all-frames s room more (length s) c (omega arith)
+
+pub next-is-inside : NextIsInside
+next-is-inside = next-inside
+
+pub sittings-are-one : SittingsAreOne
+sittings-are-one s room k c = sittings s room k c
+
+pub numbers-in-order : NumbersInOrder
+numbers-in-order s room = numbered s room (length s) start (omega arith)
+
+pub blocks-are-whole : BlocksAreWhole
+blocks-are-whole S text after most size s room x c h = whole text after most size s room x c h
+
+pub advanced-once : AdvancedOnce
+advanced-once s c map map₁ map₂ table table₁ table₂ x y p q = (p .0 ∙ sym (q .0), p .1 ∙ sym (q .1), p .2 ∙ sym (q .2))

@@ -1,0 +1,12 @@
+-- `capture::start` meets its contract.
+use borrow.Author.Needs.{needs}
+use Rattle.capture.proofs.start.Statement.{statement}
+use Rattle.capture.proofs.start.Tie as tie
+
+returns : tie.Need-returns
+returns c = rw (c .nothing-held .ensures)
+
+pub start-spec : {M : Type 1} → statement M
+start-spec = tie.close (tie.spec
+    (λ c κs. search needs)
+    returns)

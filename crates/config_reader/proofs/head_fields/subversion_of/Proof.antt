@@ -1,0 +1,42 @@
+-- `config_reader::head_fields::subversion_of` meets its contract.
+use mathlib.Core.Path.{ap, _∙_}
+use borrow.Author.Needs.{needs}
+use borrow.Author.Tests.{eq-eqb, ne-eqb}
+use Rattle.kernel.specs.Answer.{refusal, toldFetched}
+use Rattle.kernel.proofs.Chain.{got, so, gives, holds, fails, on, off, took}
+use Rattle.config.specs.Mux.{muxVersionA}
+use Rattle.config_reader.proofs.head_fields.subversion_of.Statement.{statement}
+use Rattle.config_reader.proofs.head_fields.subversion_of.Tie as tie
+
+returns : tie.Need-returns
+unfolding muxVersionA
+returns c =
+    let q = c .enum-told .given .1 in
+    ap toldFetched q ∙ so (off _ (got toldFetched _ _ _ _ (c .before .before .fetch .ensures) q))
+
+returns-2 : tie.Need-returns-2
+unfolding muxVersionA
+returns-2 c =
+    let f = c .before .before in
+    so (on _ (got toldFetched _ _ _ _ (f .before .before .fetch .ensures) (f .one .given .1))
+    (holds _ _ (eq-eqb _ 0 (c .if1 .taken)) gives))
+
+returns-3 : tie.Need-returns-3
+unfolding muxVersionA
+returns-3 c =
+    let f = c .before .before .before in
+    let s = got toldFetched _ _ _ _ (f .before .before .fetch .ensures) (f .one .given .1) in
+    ap refusal (c .refused-at .ensures)
+    ∙ so (on _ s (fails _ 1 (ne-eqb _ 0 (c .before .if1 .left)) (took _ 1 s .moved)))
+
+pub subversion-of-spec : {M : Type 1} → statement M
+subversion-of-spec =
+    tie.close
+    (tie.spec
+    (λ c κs. search needs)
+    (λ c. search needs)
+    (λ c. search needs)
+    returns
+    returns-2
+    (λ c κs. search needs)
+    returns-3)

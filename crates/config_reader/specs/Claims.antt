@@ -1,0 +1,34 @@
+-- What is claimed of the readers' promises. proofs/Theorems.antt has the theorem of each.
+use mathlib.Core.Path.{_≡_}
+use mathlib.Core.List.{List}
+use Prim.Native.Nat.{ℕ}
+use Rattle.kernel.specs.Promises.{TellsOnce}
+use Rattle.records.specs.declared.Stream.{Stream}
+use Rattle.config_reader.specs.declared.Filled.{Filled}
+use Rattle.config_reader.specs.declared.Placed.{Placed}
+use Rattle.config_reader.specs.declared.Mux.{Mux}
+use Rattle.config_reader.specs.Answer.{toldStreamed, toldHeaded, toldTailed}
+use Rattle.config_reader.specs.Promises.{LayersPromise, ProgramsPromise, MuxPromise}
+
+-- each promise allows one answer, and one content of the table lent
+abbrev pub StreamedOnce : Type 0
+StreamedOnce = TellsOnce toldStreamed
+
+abbrev pub HeadedOnce : Type 0
+HeadedOnce = TellsOnce toldHeaded
+
+abbrev pub TailedOnce : Type 0
+TailedOnce = TellsOnce toldTailed
+
+abbrev pub LayersOnce : Type 0
+LayersOnce = (version k next : ℕ) (streams : List Stream) (s : List ℕ) (at n : ℕ) (x y : Filled)
+    → LayersPromise version k next streams s at n x → LayersPromise version k next streams s at n y → x ≡ y
+
+abbrev pub ProgramsOnce : Type 0
+ProgramsOnce = (version last : ℕ) (s : List ℕ) (at n : ℕ) (x y : Placed) (t t₁ t₂ : List (List ℕ))
+    → ProgramsPromise version last s at n t x t₁ → ProgramsPromise version last s at n t y t₂ → (x ≡ y) × (t₁ ≡ t₂)
+
+abbrev pub MuxOnce : Type 0
+MuxOnce =
+    (s : List ℕ) (at n : ℕ) (x y : Mux) (t t₁ t₂ : List (List ℕ)) → MuxPromise s at n t x t₁
+    → MuxPromise s at n t y t₂ → (x ≡ y) × (t₁ ≡ t₂)

@@ -1,0 +1,136 @@
+// The readers of StreamMuxConfig, one for each production of specs/.
+mod head_fields;
+mod layers;
+mod tail_fields;
+
+ghost use mathlib.Core.Path.{_≡_};
+ghost use Rattle.kernel.specs.Reading.{Stands};
+ghost use Rattle.records.specs.Blank.{noRecord};
+ghost use Rattle.kernel.specs.declared.Reached.the-variants.{Refused};
+ghost use Rattle.config.specs.Mux.{recordOf};
+ghost use Rattle.config_reader.specs.Answer.{IfReached, Few};
+ghost use Rattle.config_reader.specs.Promises.{MuxPromise};
+use config::Head;
+use config::Tail;
+use head_fields::head_of;
+use kernel::Cursor;
+use kernel::Reached;
+use kernel::Refusal;
+use layers::programs_of;
+use records::Record;
+use records::Stream;
+use records::no_record;
+use tail_fields::tail_of;
+
+// A stream and the cursor behind it.
+pub struct ReadStream {
+    pub stream: Stream,
+    pub next: Cursor,
+}
+
+pub enum Streamed {
+    Value(ReadStream),
+    Refused(Refusal),
+}
+
+pub struct ReadHead {
+    pub head: Head,
+    pub next: Cursor,
+}
+
+pub enum Headed {
+    Value(ReadHead),
+    Refused(Refusal),
+}
+
+pub struct ReadTail {
+    pub tail: Tail,
+    pub next: Cursor,
+}
+
+pub enum Tailed {
+    Value(ReadTail),
+    Refused(Refusal),
+}
+
+// An enum cannot hold an array, so what was reached stands beside the streams.
+pub struct Filled {
+    pub reached: Reached,
+    pub streams: [Stream; 16],
+}
+
+pub struct Placed {
+    pub reached: Reached,
+    pub layers: [u32; 16],
+    pub streams: [Stream; 16],
+}
+
+pub struct Mux {
+    pub reached: Reached,
+    pub held: Record,
+}
+
+fn refused_mux(x: Refusal) -> Mux
+    ensures { λ r. ⌜ (r .reached ≡ Refused x) × (r .held ≡ noRecord) ⌝ }
+{
+    let blank = no_record();
+    Mux {
+        reached: Reached::Refused(x),
+        held: blank,
+    }
+}
+
+fn record_of(h: Head, layers: [u32; 16], streams: [Stream; 16], t: Tail) -> Record
+    ensures { λ r. ⌜ r ≡ recordOf h (record { layers = layers; streams = streams }) t ⌝ }
+{
+    Record {
+        version: h.version,
+        subversion: h.subversion,
+        tara: h.tara,
+        framing: h.framing,
+        subframes: h.subframes,
+        programs: h.programs,
+        layers: layers,
+        streams: streams,
+        other: t.other,
+        bits: t.bits,
+        checked: t.checked,
+        crc: t.crc,
+    }
+}
+
+// A whole StreamMuxConfig, and the table of its streams; a refusal leaves the table lent as it stood.
+pub fn stream_mux_config(el: &[u8], c: Cursor, table: &mut [[u8; 8]; 16]) -> Mux
+    requires { ⌜ Stands (now el) (c .at) (c .fields) ⌝ }
+    ensures told { λ r. ⌜ MuxPromise (now (el .entry)) (c .at) (c .fields) (now (table .entry)) r
+        (now (table .exit)) ⌝ }
+    ensures few { λ r. ⌜ IfReached (r .reached) (Few (r .held)) ⌝ }
+{
+    let headed = match head_of(el, c) {
+        Headed::Value(r) => r,
+        Headed::Refused(x) => return refused_mux(x),
+    };
+    let head = headed.head;
+    let none = [255; 8];
+    let mut cells = [none; 16];
+    let placed = programs_of(el, head.version, head.programs, headed.next, &mut cells);
+    let reached = placed.reached;
+    let c2 = match reached {
+        Reached::To(c2) => c2,
+        Reached::Refused(x) => return refused_mux(x),
+    };
+    let tailed = match tail_of(el, head.version, c2) {
+        Tailed::Value(r) => r,
+        Tailed::Refused(x) => return refused_mux(x),
+    };
+    let tail = tailed.tail;
+    let layers = placed.layers;
+    let streams = placed.streams;
+    let held = record_of(head, layers, streams, tail);
+    let next = tailed.next;
+    *table = cells;
+    Mux {
+        reached: Reached::To(next),
+        held: held,
+    }
+}

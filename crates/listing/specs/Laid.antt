@@ -1,0 +1,56 @@
+-- What the functions below the listing promise: the same records, from the numbers of a map, and in blocks.
+use mathlib.Core.Path.{_≡_}
+use mathlib.Core.List.{List, [], _++_}
+use Prim.Native.Nat.{ℕ, zero, suc, _+_, _≤_, min}
+use lib.Dec.{leb}
+use lib.ListN.{length}
+use Rattle.kernel.specs.Lists.{Stored}
+use Rattle.element.specs.declared.Verdict.{Verdict}
+use Rattle.element.specs.declared.Verdict.the-variants.{Accepted, Refused}
+use Rattle.items.specs.declared.Item.{Item}
+use Rattle.items.specs.Items.{itemAt}
+use Rattle.capture.specs.declared.Point.{Point}
+use Rattle.capture.specs.Frames.{Seen, framesOf, behindAll}
+use Rattle.capture.specs.Blocks as capture
+use Rattle.listing.specs.declared.Block.{Block}
+use Rattle.listing.specs.Listing.{lineOf, letterOf, refusedLine, framed, unchanged}
+
+abbrev pub lineBy : ℕ → Item → List ℕ
+lineBy number it = lineOf number (letterOf (it .kind)) (it .stream) (it .first) (it .width)
+
+-- the records of k items of a map, from item i on
+unfoldable pub mapLines : ℕ → List ℕ → ℕ → ℕ → List ℕ
+mapLines number map i zero = []
+mapLines number map i (suc k) = lineBy number (itemAt map i) ++ mapLines number map (i + 1) k
+
+-- no more items than a map has room for
+abbrev pub Within : Verdict → Type 0
+Within (Accepted items n sent) = items ≤ 1092
+Within (Refused x) = Unit {0}
+
+abbrev pub verdictLines : ℕ → Verdict → List ℕ → List ℕ
+verdictLines number (Accepted items n sent) map = mapLines number map 0 items
+verdictLines number (Refused x) map = refusedLine number (x .number) (x .place) (x .fields)
+
+module _ (s : List ℕ) (size : ℕ) (c : Point) where
+  -- the frames that a block of so many bytes lists: as long as it has room for the records of a full map
+  abbrev pub blockFrames : List Seen
+  blockFrames = capture.blockOf framed unchanged 26208 size tt (framesOf s 4368 c)
+
+  abbrev pub blockText : List ℕ
+  blockText = capture.textOf framed unchanged tt blockFrames
+
+  abbrev pub blockOf : Block
+  blockOf = record {
+    reached = behindAll c blockFrames;
+    bytes = length blockText;
+    ended = leb (length blockText + 26208) size;
+  }
+
+-- of a block's bytes, where no more than 65,536 are used
+abbrev pub usable : List ℕ → ℕ
+usable out = min 65536 (length out)
+
+-- `lay_block`, with its bytes before and after it
+abbrev pub BlockPromise : List ℕ → Point → List ℕ → Block → List ℕ → Type 0
+BlockPromise s c out r out′ = (r ≡ blockOf s (usable out) c) × Stored out 0 (blockText s (usable out) c) out′ (r .bytes)

@@ -1,0 +1,4 @@
+-- The laws that the proofs of this crate cite, and that each contract allows one result.
+pub mod Plans
+pub mod Whole
+pub mod Contracts

@@ -1,0 +1,267 @@
+-- From the walk behind the configuration to the answer of the whole element.
+use mathlib.Core.Path.{_≡_, refl, ap, sym, _∙_}
+use mathlib.Core.Bool.{Bool, true, false, cond}
+use mathlib.Core.List.{List, [], _++_, append-nil}
+use Prim.Native.Nat.{ℕ, _+_, _*_, _-_, _≤_, _<_}
+use native.Mathlib.Omega.{arith}
+use lib.Dec.{eqb}
+use lib.ListN.{length, drop}
+use borrow.Author.Tests.{lt-ltb, le-ltb, eq-eqb, ne-eqb}
+use Rattle.kernel.specs.declared.Refusal.{Refusal}
+use Rattle.kernel.specs.declared.Window.the-variants.{Open}
+use Rattle.kernel.specs.Reading.{Stop, Outcome, gave, refused, stop, refusedAt, run, field, Stands}
+use Rattle.kernel.specs.Answer.{told, value, refusal}
+use Rattle.kernel.specs.Element.{Item, Passage, came, fell, done, fields, item, withItem, next, walk, read, Answer}
+use Rattle.kernel.specs.Element.{accepted, rejected, ended}
+use Rattle.kernel.proofs.Chain.{Comes, apart, gave-told, on, off, holds, fails, gives, steady}
+use Rattle.kernel.proofs.Run.{run-forward}
+use Rattle.kernel.proofs.Kept.{run-kept}
+use Rattle.kernel.proofs.Walk.{under, onward, walk-follow, walk-gave}
+use Rattle.records.specs.declared.Record.{Record}
+use Rattle.records.specs.Table.{tableOf}
+use Rattle.records.specs.Valid.{validOf}
+use Rattle.config.specs.Mux.{streamMuxConfig}
+use Rattle.numbers.proofs.Given.{Numbered}
+use Rattle.config.proofs.Given.{ReadOk, mux}
+use Rattle.element.specs.declared.Held.{Held}
+use Rattle.element.specs.declared.Verdict.{Verdict}
+use Rattle.element.specs.declared.Verdict.the-variants.{Accepted, Refused}
+use Rattle.element.specs.declared.Reply.{Reply}
+use Rattle.element.specs.Mux.{kindU, kindC, Applied, body, applied, usable, useSameStreamMux, sentElement, afterFlag}
+use Rattle.element.specs.Mux.{audioMuxElement}
+use Rattle.element.specs.Reply.{answer, numbers, verdictOf, mapAfter, tableAfter, replyWith}
+use Rattle.walk.specs.Parts.{fronted, verdictFrom, mapFrom}
+use Rattle.walk.specs.declared.Plan.{Plan}
+use Rattle.walk.specs.Promises.{FinishPromise}
+use Rattle.reader.specs.Parts.{planOf, behindOf, sentOf}
+use Rattle.reader.proofs.Plans.{plan-is}
+
+-- a passage with the configuration that applied for its answer
+abbrev with : Applied → Passage Unit → Passage Applied
+with a (came u its at n) = came a its at n
+with a (fell r its) = fell r its
+
+onward-with : (s : List ℕ) (a : Applied) (x : Passage Unit) → onward x (λ _ at n. walk s (done a) at n) ≡ with a x
+unfolding onward under walk
+onward-with s a (came u its at n) = ap (λ (z : List Item). came a z at n) (append-nil its)
+onward-with s a (fell r its) = refl
+
+walk-applied : (s : List ℕ) (a : Applied) (at n : ℕ) → walk s (applied a) at n ≡ with a (walk s (body (a .config)) at n)
+unfolding applied
+walk-applied s a at n =
+    walk-follow s (λ _. done a) (body (a .config)) at n ∙ onward-with s a (walk s (body (a .config)) at n)
+
+fronted-with : (sent : Bool) (at : ℕ) (a : Applied) (x : Passage Unit)
+    → fronted sent at (with a x) ≡ with a (fronted sent at x)
+unfolding withItem
+fronted-with true at a (came u its p n) = refl
+fronted-with true at a (fell r its) = refl
+fronted-with false at a (came u its p n) = refl
+fronted-with false at a (fell r its) = refl
+
+behind-with : (s : List ℕ) (r : Record) (sent : Bool) (at n : ℕ)
+    → behindOf s r sent at n ≡ ended (8 * length s)
+    (with (record { sent = sent; config = r }) (fronted sent at (walk s (body r) at n)))
+unfolding behindOf
+behind-with s r sent at n =
+    let a : Applied = record { sent = sent; config = r } in
+    ap (λ (z : Passage Applied). ended (8 * length s) (fronted sent at z)) (walk-applied s a at n)
+    ∙ ap (ended (8 * length s)) (fronted-with sent at a (walk s (body r) at n))
+
+module _ (a : Applied) (bits : ℕ) where
+  ends-verdict : (x : Passage Unit) → verdictFrom (a .sent) bits x ≡ verdictOf (ended bits (with a x))
+  ends-verdict (fell r its) = refl
+  ends-verdict (came u its at n) = go (eqb at bits)
+    where
+      go : (t : Bool) → cond t (Accepted (length its) n (a .sent)) (Refused (refusedAt 15 at n))
+          ≡ verdictOf (cond t (accepted a its n) (rejected (stop 15 at 0 n) its))
+      go true = refl
+      go false = refl
+
+  ends-map : (map : List ℕ) (x : Passage Unit) → mapFrom map bits x ≡ mapAfter map (ended bits (with a x))
+  ends-map map (fell r its) = refl
+  ends-map map (came u its at n) = go (eqb at bits)
+    where
+      go : (t : Bool) → cond t (numbers its ++ drop (4 * length its) map) map
+          ≡ mapAfter map (cond t (accepted a its n) (rejected (stop 15 at 0 n) its))
+      go true = refl
+      go false = refl
+
+-- what holds of every answer in which a applied, and of every refusal, holds where a walk ends
+at-the-end : (P : Answer Applied → Type 0) (a : Applied) → ((its : List Item) (n : ℕ) → P (accepted a its n))
+    → ((r : Stop) (its : List Item) → P (rejected r its))
+    → (bits : ℕ) (x : Passage Unit) → P (ended bits (with a x))
+at-the-end P a f g bits (fell r its) = g r its
+at-the-end P a f g bits (came u its at n) = go (eqb at bits)
+  where
+    go : (t : Bool) → P (cond t (accepted a its n) (rejected (stop 15 at 0 n) its))
+    go true = f its n
+    go false = g (stop 15 at 0 n) its
+
+module _ (s : List ℕ) (r : Record) (at n : ℕ) where
+  pub behind-is : (sent : Bool) → validOf r ≡ true → (plan : Plan) → plan ≡ planOf r
+      → (map : List ℕ) {v : Verdict} {map′ : List ℕ} → FinishPromise sent s plan at n map v map′
+      → (v ≡ verdictOf (behindOf s r sent at n)) × (map′ ≡ mapAfter map (behindOf s r sent at n))
+  behind-is sent h plan e map p =
+      let a : Applied = record { sent = sent; config = r } in
+      let x = fronted sent at (walk s (body r) at n) in
+      let q = rw (e, plan-is r h) at p in (
+        q .0 ∙ ends-verdict a (8 * length s) x ∙ ap verdictOf (sym (behind-with s r sent at n)),
+        q .1 ∙ ends-map a (8 * length s) map x ∙ ap (mapAfter map) (sym (behind-with s r sent at n)),
+      )
+
+  behind-ends : (P : Answer Applied → Type 0) (sent : Bool)
+      → ((its : List Item) (k : ℕ) → P (accepted (record { sent = sent; config = r }) its k))
+      → ((z : Stop) (its : List Item) → P (rejected z its)) → P (behindOf s r sent at n)
+  behind-ends P sent f g =
+      rw (behind-with s r sent at n)
+      (at-the-end P (record { sent = sent; config = r }) f g (8 * length s)
+      (fronted sent at (walk s (body r) at n)))
+
+  -- what is left behind where the configuration was held,
+  pub behind-kept : (held : Held) (table : List (List ℕ)) {v : Verdict} → v ≡ verdictOf (behindOf s r false at n)
+      → (_≡_ {A = Reply} (record { verdict = v; held = held }) (replyWith held (behindOf s r false at n)))
+      × (table ≡ tableAfter table (behindOf s r false at n))
+  behind-kept held table e =
+      rw e (behind-ends
+      (λ y. (_≡_ {A = Reply} (record { verdict = verdictOf y; held = held }) (replyWith held y))
+      × (table ≡ tableAfter table y)) false
+      (λ its k. (refl, refl)) (λ z its. (refl, refl)))
+
+  -- and where it was sent: accepted, it is held with its table; refused, all is as it stood
+  abbrev Leaves : Held → List (List ℕ) → Verdict → Answer Applied → Type 0
+  Leaves held table (Accepted k m sent) y =
+      let kept : Held = record { present = true; config = r } in
+      (_≡_ {A = Reply} (record { verdict = Accepted k m sent; held = kept }) (replyWith held y))
+      × (tableOf (r .layers) (r .programs) ≡ tableAfter table y)
+  Leaves held table (Refused x) y =
+      (_≡_ {A = Reply} (record { verdict = Refused x; held = held }) (replyWith held y)) × (table ≡ tableAfter table y)
+
+  pub behind-sent : (held : Held) (table : List (List ℕ)) {v : Verdict} → v ≡ verdictOf (behindOf s r true at n)
+      → Leaves held table v (behindOf s r true at n)
+  behind-sent held table e =
+      rw e (behind-ends (λ y. Leaves held table (verdictOf y) y) true (λ its k. (refl, refl)) (λ z its. (refl, refl)))
+
+-- the answer y is refusal x, so that all that was held or lent is as it was
+abbrev Unchanged : Refusal → Held → List ℕ → List (List ℕ) → Answer Applied → Type 0
+Unchanged x held map table y =
+    (_≡_ {A = Reply} (record { verdict = Refused x; held = held }) (replyWith held y))
+    × ((map ≡ mapAfter map y) × (table ≡ tableAfter table y))
+
+-- a configuration stands behind the flag
+module _ (s : List ℕ) (at n : ℕ) where
+  pub sent-done : (r : Record) (at′ n′ : ℕ) → at ≡ 1 → told (run s streamMuxConfig at n) ≡ value r at′ n′
+      → sentOf s at n ≡ behindOf s r true at′ n′
+  unfolding sentOf behindOf
+  sent-done r at′ n′ h e =
+      ap (λ (z : Passage Applied). ended (8 * length s) (withItem (item fields kindU 0 0 1) z))
+      (walk-gave s at n kindC streamMuxConfig (λ r. applied (record { sent = true; config = r })) r at′ n′
+      (gave-told (run s streamMuxConfig at n) e)
+      ∙ ap (λ (p : ℕ). withItem (item fields kindC 0 p (at′ - p))
+      (walk s (applied (record { sent = true; config = r })) at′ n′)) h)
+
+  pub sent-forward : {r : Record} {at′ n′ : ℕ} → told (run s streamMuxConfig at n) ≡ value r at′ n′ → at ≤ at′
+  sent-forward e = rw (gave-told (run s streamMuxConfig at n) e) at (run-forward s streamMuxConfig at n)
+
+  pub sent-valid : {r : Record} {at′ n′ : ℕ} → told (run s streamMuxConfig at n) ≡ value r at′ n′ → validOf r ≡ true
+  sent-valid e =
+      (rw (gave-told (run s streamMuxConfig at n) e) at (run-kept Numbered ReadOk refl refl s at n mux)) .valid
+
+  pub sent-steady : {r : Record} {at′ n′ : ℕ} → told (run s streamMuxConfig at n) ≡ value r at′ n′ → Stands s at n
+      → Stands s at′ n′
+  sent-steady e h = steady {m = streamMuxConfig} (record { is = e }) h
+
+  pub sent-refused : (held : Held) (map : List ℕ) (table : List (List ℕ)) (x : Refusal)
+      → told (run s streamMuxConfig at n) ≡ refusal x
+      → Unchanged x held map table (sentOf s at n)
+  unfolding sentOf walk next withItem
+  sent-refused held map table x = go (run s streamMuxConfig at n)
+    where
+      all : Outcome Record → Answer Applied
+      all o =
+          ended (8 * length s) (withItem (item fields kindU 0 0 1)
+          (next kindC at o (λ r at′ n′. walk s (applied (record { sent = true; config = r })) at′ n′)))
+
+      go : (o : Outcome Record) → told o ≡ refusal x → Unchanged x held map table (all o)
+      go (gave r at′ n′) e = absurd (apart (sym e))
+      go (refused r) e =
+          let q : x ≡ r .refusal = cc in
+          (ap (λ (z : Refusal). record { verdict = Refused z; held = held }) q, (refl, refl))
+
+-- by the flag
+module _ (s : List ℕ) (held : Held) where
+  pub flag-refused : (map : List ℕ) (table : List (List ℕ)) (x : Refusal)
+      → told (run s (useSameStreamMux (usable held)) 0 0) ≡ refusal x
+      → Unchanged x held map table (read s (audioMuxElement held))
+  unfolding audioMuxElement walk next
+  flag-refused map table x = go (run s (useSameStreamMux (usable held)) 0 0)
+    where
+      all : Outcome ℕ → Answer Applied
+      all o = ended (8 * length s) (next kindU 0 o (λ u at′ n′. walk s (afterFlag (eqb u 1) (held .config)) at′ n′))
+
+      go : (o : Outcome ℕ) → told o ≡ refusal x → Unchanged x held map table (all o)
+      go (gave u at′ n′) e = absurd (apart (sym e))
+      go (refused r) e =
+          let q : x ≡ r .refusal = cc in
+          (ap (λ (z : Refusal). record { verdict = Refused z; held = held }) q, (refl, refl))
+
+  pub flag-sent : (at n : ℕ) → at ≡ 1 → told (run s (useSameStreamMux (usable held)) 0 0) ≡ value 0 at n
+      → read s (audioMuxElement held) ≡ sentOf s at n
+  unfolding audioMuxElement sentOf afterFlag
+  flag-sent at n h e =
+      ap (ended (8 * length s))
+      (walk-gave s 0 0 kindU (useSameStreamMux (usable held)) (λ u. afterFlag (eqb u 1) (held .config)) 0 at n
+      (gave-told (run s (useSameStreamMux (usable held)) 0 0) e)
+      ∙ ap (λ (p : ℕ). withItem (item fields kindU 0 0 p) (walk s sentElement at n)) (let q : at - 0
+      ≡ 1 = omega arith in q))
+
+  pub flag-held : (at n : ℕ) → at ≡ 1 → told (run s (useSameStreamMux (usable held)) 0 0) ≡ value 1 at n
+      → read s (audioMuxElement held) ≡ behindOf s (held .config) false at n
+  unfolding audioMuxElement behindOf afterFlag
+  flag-held at n h e =
+      ap (ended (8 * length s))
+      (walk-gave s 0 0 kindU (useSameStreamMux (usable held)) (λ u. afterFlag (eqb u 1) (held .config)) 1 at n
+      (gave-told (run s (useSameStreamMux (usable held)) 0 0) e)
+      ∙ ap (λ (p : ℕ). withItem (item fields kindU 0 0 p)
+      (walk s (applied (record { sent = false; config = held .config })) at n)) (let q : at - 0 ≡ 1 = omega arith in q))
+
+-- what useSameStreamMux comes to
+module _ {s : List ℕ} where
+  pub flag-short : (h : Bool) {x : Refusal} → Comes s (field Open 1) 0 0 (refusal x)
+      → told (run s (useSameStreamMux h) 0 0) ≡ refusal x
+  unfolding useSameStreamMux
+  flag-short h e = off _ e .is
+
+  pub flag-0 : (h : Bool) {at n : ℕ} → Comes s (field Open 1) 0 0 (value 0 at n)
+      → told (run s (useSameStreamMux h) 0 0) ≡ value 0 at n
+  unfolding useSameStreamMux
+  flag-0 h e = on _ e (holds 4 1 refl gives) .is
+
+  pub flag-1 : (h : Bool) {at n : ℕ} → h ≡ true → Comes s (field Open 1) 0 0 (value 1 at n)
+      → told (run s (useSameStreamMux h) 0 0) ≡ value 1 at n
+  unfolding useSameStreamMux
+  flag-1 h q e = on _ e (holds 4 1 q gives) .is
+
+  pub flag-unheld : (h : Bool) {at n : ℕ} → h ≡ false → at ≡ 1 → Comes s (field Open 1) 0 0 (value 1 at n)
+      → told (run s (useSameStreamMux h) 0 0) ≡ refusal (refusedAt 4 0 n)
+  unfolding useSameStreamMux
+  flag-unheld h q l e = on _ e (fails _ {p = 0} 1 q l) .is
+
+-- before any field
+module _ (s : List ℕ) (held : Held) (room : ℕ) where
+  pub map-small : room < 4368 → answer s held room ≡ rejected (stop 1 0 0 0) []
+  unfolding answer
+  map-small h = rw (lt-ltb room 4368 h)
+
+  pub length-none : 4368 ≤ room → length s ≡ 0 → answer s held room ≡ rejected (stop 2 0 0 0) []
+  unfolding answer
+  length-none h e = rw (le-ltb room 4368 h, eq-eqb (length s) 0 e)
+
+  pub length-over : 4368 ≤ room → (length s ≡ 0 → ⊥) → 8191 < length s → answer s held room ≡ rejected (stop 2 0 0 0) []
+  unfolding answer
+  length-over h e l = rw (le-ltb room 4368 h, ne-eqb (length s) 0 e, lt-ltb 8191 (length s) l)
+
+  pub length-right : 4368 ≤ room → (length s ≡ 0 → ⊥) → length s ≤ 8191
+      → answer s held room ≡ read s (audioMuxElement held)
+  unfolding answer
+  length-right h e l = rw (le-ltb room 4368 h, ne-eqb (length s) 0 e, le-ltb 8191 (length s) l)

@@ -1,0 +1,2 @@
+-- What inner functions promise.
+pub mod Parts

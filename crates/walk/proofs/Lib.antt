@@ -1,0 +1,7 @@
+-- The laws that the proofs of this crate cite, and the theorems.
+pub mod Turns
+pub mod Goes
+pub mod Ending
+pub mod Widths
+pub mod Theorems
+pub mod Contracts

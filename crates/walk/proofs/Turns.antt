@@ -1,0 +1,102 @@
+-- One turn of the readings that loop.
+use mathlib.Core.Path.{_≡_, sym, ap, _∙_}
+use mathlib.Core.List.{List, [], _∷_, _++_}
+use Prim.Native.Nat.{ℕ, zero, suc, _+_, _*_, _-_, _<_, _≤_}
+use native.Mathlib.Numerals.{add-one}
+use native.Mathlib.Omega.{arith}
+use lib.ListN.{length, getD, set, take, drop, replicate, length-take, drop-of-length-le}
+use lib.Seq.{drop-cons, drop-drop, drop-set-lt, getD-take, take-suc-set}
+use borrow.Author.Tests.{eq-eqb, ne-eqb}
+use Rattle.kernel.specs.declared.Window.the-variants.{Open}
+use Rattle.kernel.specs.declared.Refusal.{Refusal}
+use Rattle.kernel.specs.Reading.{field, run}
+use Rattle.kernel.specs.Answer.{Told, value, refusal}
+use Rattle.kernel.proofs.Lists.{drop-replicate}
+use Rattle.kernel.proofs.Chain.{Comes, gave-told, gives, on, off, yes-way, no-way, itself, goes-on}
+use Rattle.kernel.proofs.Kept.{Any, Kept, gives as keeps, either, so as keeps-so, a-field, on as keeps-on, run-kept}
+use Rattle.element.specs.Mux.{slotFrom, muxSlotLengthBytes, payloadLengthInfo}
+use Rattle.walk.specs.Plan.{slotBy, slotsBy}
+
+module _ {s : List ℕ} {at k : ℕ} where
+  pub slot-done : (n v : ℕ) → n ≡ 0 → Comes s (slotFrom n v) at k (value v at k)
+  unfolding slotFrom
+  slot-done zero v h = gives
+  slot-done (suc n) v h = absurd (omega arith)
+
+  pub slot-stop : (n v : ℕ) {x : Refusal} → 0 < n → Comes s (field Open 8) at k (refusal x)
+      → Comes s (slotFrom n v) at k (refusal x)
+  unfolding slotFrom
+  slot-stop zero v h e = absurd (omega arith)
+  slot-stop (suc n) v h e = off _ e
+
+  pub slot-last : (n v : ℕ) {b at′ k′ : ℕ} → 0 < n → Comes s (field Open 8) at k (value b at′ k′) → (b ≡ 255 → ⊥)
+      → Comes s (slotFrom n v) at k (value (v + b) at′ k′)
+  unfolding slotFrom
+  slot-last zero v h e u = absurd (omega arith)
+  slot-last (suc n) v {b} h e u = on _ e (no-way _ (ne-eqb b 255 u) gives)
+
+  pub slot-turn : (n v : ℕ) {b at′ k′ : ℕ} {o : Told ℕ} → 0 < n → Comes s (field Open 8) at k (value b at′ k′)
+      → b ≡ 255 → Comes s (slotFrom n v) at k o
+      → Comes s (slotFrom (n - 1) (v + 255)) at′ k′ o
+  unfolding slotFrom
+  slot-turn zero v h e u q = absurd (omega arith)
+  slot-turn (suc n) v {b} h e u q =
+      let p : suc n - 1 ≡ n = omega arith in
+      rw p (goes-on (slotFrom n _) _ _ (on _ e (yes-way _ (eq-eqb b 255 u) itself)) q)
+
+-- the i-th of the first n, and those after it
+pub next-one : {A : Type 0} (d : A) (xs : List A) (n i : ℕ) → i < n → n ≤ length xs
+    → drop i (take n xs) ≡ getD xs i d ∷ drop (i + 1) (take n xs)
+next-one d xs n i h l =
+    let e : length (take n xs) ≡ n = length-take n xs ∙ omega arith in
+    rw (drop-cons (take n xs) i d (omega arith), getD-take n xs i d h, add-one)
+
+-- the bytes of a slot are fewer than those of 8,192 bytes of 255
+slot-small : (n v : ℕ) → Kept Any (λ (x : ℕ). x ≤ v + 255 * n) (slotFrom n v)
+unfolding slotFrom
+slot-small zero v = keeps (omega arith)
+slot-small (suc n) v =
+    keeps-on _ (a-field _ _) λ b l.
+    either _ (λ _. keeps-so (slot-small n (v + 255)) (λ x h. omega arith)) (λ _. keeps (omega arith))
+
+pub slot-few : {s : List ℕ} {at n v at′ n′ : ℕ} → Comes s muxSlotLengthBytes at n (value v at′ n′) → v ≤ 2088960
+unfolding muxSlotLengthBytes
+slot-few {s} {at} {n} e =
+    rw (gave-told (run s (slotFrom 8192 0) at n) (e .is)) at
+    (run-kept Any (λ (x : ℕ). x ≤ 0 + 255 * 8192) tt tt s at n (slot-small 8192 0))
+
+module _ {s : List ℕ} {at k : ℕ} (slots : List ℕ) (n : ℕ) where
+  pub lengths-done : (ws : List ℕ) (i : ℕ) → i ≡ n
+      → Comes s (payloadLengthInfo ws (slotsBy (drop i (take n slots)))) at k (value ws at k)
+  unfolding payloadLengthInfo
+  lengths-done ws i h = rw none gives
+    where
+      none : drop i (take n slots) ≡ []
+      none = drop-of-length-le (take n slots) {i = i} (omega (arith, length-take n slots))
+
+  pub lengths-stop : (ws : List ℕ) (i : ℕ) {x : Refusal} → i < n → n ≤ length slots
+      → Comes s (slotBy (getD slots i 0)) at k (refusal x)
+      → Comes s (payloadLengthInfo ws (slotsBy (drop i (take n slots)))) at k (refusal x)
+  unfolding payloadLengthInfo
+  lengths-stop ws i h l e = rw (next-one 0 slots n i h l) (off _ e)
+
+  pub lengths-turn : (ws : List ℕ) (i : ℕ) {w at′ k′ : ℕ} {o : Told (List ℕ)} → i < n → n ≤ length slots
+      → Comes s (slotBy (getD slots i 0)) at k (value w at′ k′)
+      → Comes s (payloadLengthInfo ws (slotsBy (drop i (take n slots)))) at k o
+      → Comes s (payloadLengthInfo (ws ++ (w ∷ [])) (slotsBy (drop (i + 1) (take n slots)))) at′ k′ o
+  unfolding payloadLengthInfo
+  lengths-turn ws i h l e q =
+      goes-on (payloadLengthInfo _ (slotsBy (drop (i + 1) (take n slots)))) _ _ (on _ e itself)
+      (rw (next-one 0 slots n i h l) at q)
+
+-- a width stored behind those that stand
+pub widths-more : (ws : List ℕ) (i w : ℕ) → i < length ws → take (i + 1) (set ws i w) ≡ take i ws ++ (w ∷ [])
+widths-more ws i w h = rw add-one (take-suc-set ws i w h)
+
+-- and behind it zeros
+pub zeros-more : (ws : List ℕ) (i w : ℕ) → drop i ws ≡ replicate (16 - i) 0
+    → drop (i + 1) (set ws i w) ≡ replicate (16 - (i + 1)) 0
+zeros-more ws i w h =
+    let e : 16 - i - 1 ≡ 16 - (i + 1) = omega arith in
+    drop-set-lt (i + 1) ws i w (omega arith) ∙ sym (drop-drop 1 i ws) ∙ ap (drop 1) h ∙ drop-replicate 1 (16 - i) 0
+    ∙ ap (λ (n : ℕ). replicate n 0) e

@@ -1,0 +1,93 @@
+-- `walk::subframes_of` meets its contract.
+use mathlib.Core.Path.{refl, ap, _≡_, _∙_}
+use Prim.Native.Nat.{_+_, _*_, _≤_}
+use native.Mathlib.Omega.{arith}
+use lib.ListN.{length, take}
+use borrow.Author.Needs.{needs}
+use Rattle.kernel.specs.Reading.{Stands}
+use Rattle.element.specs.Mux.{subframes}
+use Rattle.walk.specs.Parts.{toldPassage, made, storedIf, Goes, toldWalked}
+use Rattle.walk.specs.Plan.{slotsBy}
+use Rattle.walk.proofs.Goes.{goes-itself, goes-told, goes-back, subframes-done, subframes-turn, subframes-off}
+use Rattle.walk.proofs.Goes.{goes-steady}
+use Rattle.kernel.specs.Element.{walk}
+use Rattle.walk.proofs.subframes_of.Statement.{statement}
+use Rattle.walk.proofs.subframes_of.Tie as tie
+
+abbrev Inv-loop : tie.InvT-loop
+Inv-loop el slots n count k map₀ store cur₀ items₀ left₀ map cur items left =
+    (left ≤ count) × (items + 17 * left ≤ k + 17 * count) × (length map ≡ length map₀)
+    × Stands el (cur .at) (cur .fields)
+    × Goes el (subframes left (slotsBy (take n slots))) (cur .at) (cur .fields) items store map
+    (toldPassage k (walk el (subframes count (slotsBy (take n slots))) (cur₀ .at) (cur₀ .fields)))
+    (storedIf store map₀ k (made (walk el (subframes count (slotsBy (take n slots))) (cur₀ .at) (cur₀ .fields))))
+
+abbrev μ-loop : tie.MeasureT-loop
+μ-loop el slots n count k map₀ store cur₀ items₀ left₀ map cur items left = left
+
+loop-holds : tie.Need-loop-holds Inv-loop μ-loop
+loop-holds c = (omega arith, omega arith, refl, omega arith, goes-itself)
+
+subframe-of-requires : tie.Need-subframe-of-requires Inv-loop μ-loop
+subframe-of-requires c κs = omega arith
+
+returns : tie.Need-returns Inv-loop μ-loop
+returns c =
+    let q = c .enum-told .given .1 in
+    let p = c .before .before .before .before in
+    let l = p .before .before .before in
+    let a = l .before .before .before .args in (
+      goes-back (subframes (a .count) (slotsBy (take (a .n) (a .slots)))) (a .c .at) (a .c .fields) (a .k) (a .store)
+          (a .map .now)
+          (rw q (subframes-off (slotsBy (take (a .n) (a .slots))) (l .loop .left) (omega arith)
+          (goes-told (p .subframe-of .ensures .0) (ap toldWalked q)) (l .loop .inv .4))),
+      rw q tt,
+    )
+
+sub-left : tie.Need-sub-left Inv-loop μ-loop
+sub-left c = omega arith
+
+loop-less : tie.Need-loop-less Inv-loop μ-loop
+loop-less c = omega arith
+
+loop-again : tie.Need-loop-again Inv-loop μ-loop
+loop-again c =
+    let g = c .before in
+    let p = g .before .before .before .before in
+    let l = p .before .before .before in
+    let a = l .before .before .before .args in
+    let t = goes-told (p .subframe-of .ensures .0) (ap toldWalked (g .got .given .1)) in (
+      omega arith,
+      (let e = rw (g .got .given .1) at (p .subframe-of .ensures .1) in omega arith),
+      p .subframe-of .kept .1 .1 .1 .1 .1 .0 ∙ l .loop .inv .2,
+      goes-steady t (l .loop .inv .3),
+      subframes-turn (slotsBy (take (a .n) (a .slots))) (l .loop .left) (omega arith) t (l .loop .inv .4),
+    )
+
+returns-2 : tie.Need-returns-2 Inv-loop μ-loop
+returns-2 c =
+    let l = c .before in
+    let a = l .before .before .before .args in (
+      goes-back (subframes (a .count) (slotsBy (take (a .n) (a .slots)))) (a .c .at) (a .c .fields) (a .k) (a .store)
+          (a .map .now)
+          (subframes-done (slotsBy (take (a .n) (a .slots))) (l .loop .left) (omega arith) (l .loop .inv .4)),
+      omega arith,
+    )
+
+pub subframes-of-spec : {M : Type 1} → statement M
+subframes-of-spec =
+    tie.close
+    (tie.spec
+    Inv-loop
+    μ-loop
+    loop-holds
+    subframe-of-requires
+    (λ c. search needs)
+    (λ c. search needs)
+    (λ c. search needs)
+    returns
+    sub-left
+    loop-less
+    loop-again
+    (λ c. search needs)
+    returns-2)

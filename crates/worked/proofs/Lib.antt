@@ -1,0 +1,4 @@
+-- The theorems.
+pub mod Worked
+pub mod Edges
+pub mod Writing
