@@ -1,5 +1,5 @@
 #!/usr/bin/env python3
-"""Lays out, field by field, the elements of crates/element/specs/Edges.antt and the whole elements of Worked.antt behind 01's own two, and sees that
+"""Lays out, field by field, the elements of crates/worked/specs/Edges.antt and the whole elements of Worked.antt behind 01's own two, and sees that
 they stand there with the verdict and the map that the layout gives:
 
     python3 tests/edge_cases.py            # 'N cases stand in the definitions'
@@ -12,7 +12,7 @@ import sys
 
 from layout import Audio, Element, Hz, Index, Layer, Mux
 
-SPECS = pathlib.Path(__file__).resolve().parent.parent / "crates" / "element" / "specs"
+SPECS = pathlib.Path(__file__).resolve().parent.parent / "crates" / "worked" / "specs"
 cases = []
 
 

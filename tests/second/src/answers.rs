@@ -51,6 +51,24 @@ pub fn difference(script: &[u8], text: &[u8]) -> Option<String> {
     (!left.is_empty()).then(|| "the end: there is more text".to_string())
 }
 
+/// A script that has the case of this number, from 0, behind one that holds what
+/// is held before it; none where there is no such case.
+pub fn alone(script: &[u8], number: usize) -> Option<Vec<u8>> {
+    let mut held = Held::default();
+    let mut cases = Cases::new(script);
+    for _ in 0..number {
+        held.answer(cases.next()?);
+    }
+    let before = Case::Hold {
+        present: held.present,
+        record: Box::new(held.record),
+    };
+    let mut alone = Vec::new();
+    before.put(&mut alone);
+    cases.next()?.put(&mut alone);
+    Some(alone)
+}
+
 #[derive(Default)]
 struct Held {
     present: bool,

@@ -11,7 +11,8 @@ second answers < script
 second script SEED > script
 second count-script SEED...
 second count-script < script
-second differ SCRIPT-FILE < answers";
+second differ SCRIPT-FILE < answers
+second case NUMBER < script > script";
 
 fn main() -> ExitCode {
     let arguments: Vec<String> = std::env::args().skip(1).collect();
@@ -41,6 +42,7 @@ fn run(arguments: &[String]) -> Result<(), String> {
         ("count-script", []) => print(count_input(&all_input()?).as_bytes()),
         ("count-script", [_, ..]) => print(count_script(rest)?.as_bytes()),
         ("differ", [file]) => differ(file),
+        ("case", [number]) => print(&case(number)?),
         _ => Err(USAGE.to_string()),
     }
 }
@@ -92,6 +94,12 @@ fn count_input(script: &[u8]) -> String {
     let kinds =
         answers::kinds(script).map(|(kind, count)| format!("kind {kind}      {count:>7}\n"));
     kinds.concat() + &refused_lines(&answers::counts(script), 1)
+}
+
+fn case(number: &str) -> Result<Vec<u8>, String> {
+    let script = all_input()?;
+    let alone = number.parse().ok().and_then(|n| answers::alone(&script, n));
+    alone.ok_or_else(|| format!("the script has no case {number}"))
 }
 
 /// Fails, and names the case, where the answers on standard input are others.

@@ -3,7 +3,7 @@
 mod common;
 
 use common::{concat, first_worked, held_by, Draft, CORE, PS, SBR, WORKED};
-use second::answers::{answers, counts, difference};
+use second::answers::{alone, answers, counts, difference};
 use second::broken;
 use second::draw;
 use second::maker::script;
@@ -297,6 +297,15 @@ fn the_case_that_differs_is_named() {
     assert_eq!(named.as_deref(), Some("case 1, of kind W"));
     assert!(difference(&script, (text.clone() + "\n").as_bytes()).is_some());
     assert!(difference(&script, &text.as_bytes()[..text.len() - 1]).is_some());
+}
+
+#[test]
+fn a_case_alone_is_answered_as_among_the_others() {
+    let script = script(1);
+    let count = Cases::new(&script).count();
+    let each = (0..count).map(|number| answers(&alone(&script, number).expect("a case")));
+    assert_eq!(each.collect::<String>(), answers(&script));
+    assert_eq!(alone(&script, count), None);
 }
 
 /// Where a numLayer above 7 is looked at, docs/SCRIPT.md says no rows.
