@@ -33,6 +33,7 @@ pub struct ReadFreq {
     pub next: Cursor,
 }
 
+// A frequency as it was read, or why it was not.
 pub enum Rated {
     Value(ReadFreq),
     Refused(Refusal),
@@ -45,11 +46,13 @@ pub struct Flags {
     pub extension: u32,
 }
 
+// The flags and the cursor behind them.
 pub struct ReadFlags {
     pub flags: Flags,
     pub next: Cursor,
 }
 
+// The flags of GASpecificConfig as they were read, or why they were not.
 pub enum Flagged {
     Value(ReadFlags),
     Refused(Refusal),
@@ -61,6 +64,7 @@ pub struct ReadForm {
     pub next: Cursor,
 }
 
+// The form of signalling as it was read, or why it was not.
 pub enum Formed {
     Value(ReadForm),
     Refused(Refusal),
@@ -72,12 +76,13 @@ pub struct ReadConfig {
     pub next: Cursor,
 }
 
+// A configuration as it was read, or why it was not.
 pub enum Configured {
     Value(ReadConfig),
     Refused(Refusal),
 }
 
-fn channels_of(el: &[u8], win: Window, c: Cursor) -> Fetched
+fn channel_configuration(el: &[u8], win: Window, c: Cursor) -> Fetched
     requires { ⌜ Stands (now el) (c .at) (c .fields) ⌝ }
     ensures { λ r. ⌜ Tells toldFetched (now (el .entry)) (channelConfiguration win) (c .at) (c .fields) r ⌝ }
 {
@@ -208,6 +213,7 @@ fn under_front(el: &[u8], win: Window, c: Cursor, t: u32, f: Freq, channels: u32
     })
 }
 
+// AudioSpecificConfig with its GASpecificConfig, in a window.
 pub fn audio_specific_config(el: &[u8], win: Window, c: Cursor) -> Configured
     requires { ⌜ Stands (now el) (c .at) (c .fields) ⌝ }
     ensures { λ r. ⌜ Tells toldConfigured (now (el .entry)) (audioSpecificConfig win) (c .at) (c .fields) r ⌝ }
@@ -221,7 +227,7 @@ pub fn audio_specific_config(el: &[u8], win: Window, c: Cursor) -> Configured
         Rated::Refused(x) => return Configured::Refused(x),
     };
     let f = rated.freq;
-    let four = channels_of(el, win, rated.next);
+    let four = channel_configuration(el, win, rated.next);
     let Fetched::Value(channels, c3) = four else {
         return Configured::Refused(why(four));
     };

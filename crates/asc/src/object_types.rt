@@ -12,6 +12,7 @@ use kernel::Fetched;
 use kernel::Window;
 use kernel::refused_at;
 
+// Types that stand alone, or under type 5 or 29.
 pub fn is_core(t: u32) -> bool
     ensures { λ r. ⌜ r ≡ isCore t ⌝ }
 {
@@ -52,6 +53,7 @@ fn escaped(el: &[u8], win: Window, c: Cursor) -> Fetched
     Fetched::Refused(refused_at(8, place, c1))
 }
 
+// A type that is carried in front, or as a core under type 5 or 29.
 pub fn object_type(el: &[u8], win: Window, c: Cursor, under: bool) -> Fetched
     requires { ⌜ Stands (now el) (c .at) (c .fields) ⌝ }
     ensures { λ r. ⌜ Tells toldFetched (now (el .entry)) (objectType (carriedIf under) win) (c .at) (c .fields) r ⌝ }
@@ -70,6 +72,7 @@ pub fn object_type(el: &[u8], win: Window, c: Cursor, under: bool) -> Fetched
     Fetched::Refused(refused_at(8, place, c1))
 }
 
+// Any type, with the six more bits of 31.
 pub fn any_type(el: &[u8], win: Window, c: Cursor) -> Fetched
     requires { ⌜ Stands (now el) (c .at) (c .fields) ⌝ }
     ensures { λ r. ⌜ Tells toldFetched (now (el .entry)) (anyType win) (c .at) (c .fields) r ⌝ }

@@ -31,6 +31,7 @@ fn hertz_of(el: &[u8], win: Window, c: Cursor) -> Rated
     })
 }
 
+// A frequency by its index, or in 24 bits behind index 15.
 pub fn frequency_of(el: &[u8], win: Window, c: Cursor) -> Rated
     requires { ⌜ Stands (now el) (c .at) (c .fields) ⌝ }
     ensures { λ r. ⌜ Tells toldRated (now (el .entry)) (frequency win) (c .at) (c .fields) r ⌝ }

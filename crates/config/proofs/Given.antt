@@ -24,10 +24,10 @@ use Rattle.records.proofs.Tables.{streams-more, streams-end}
 use Rattle.numbers.proofs.Given.{Numbered, Wide, get-value, groups-from}
 use Rattle.asc.proofs.Given.{Configured, asc}
 use Rattle.config.specs.declared.Head.{Head}
-use Rattle.config.specs.declared.Tail.{Tail}
+use Rattle.config.specs.declared.Ending.{Ending}
 use Rattle.config.specs.declared.Places.{Places}
 use Rattle.config.specs.Mux.{windowed, configuration, frameLength, sentOrSame, layer, configAt, layers, programs}
-use Rattle.config.specs.Mux.{muxVersionA, muxHead, otherLength, muxTail, noPlaces, recordOf, streamMuxConfig}
+use Rattle.config.specs.Mux.{muxVersionA, muxHead, otherLength, muxEnding, noPlaces, recordOf, streamMuxConfig}
 
 -- ---- a stream
 
@@ -202,7 +202,7 @@ head =
       programs = omega arith;
     })
 
-record TailOk (t : Tail) : Type 0 where
+record EndingOk (t : Ending) : Type 0 where
   other : t .other ≤ 1
   bits : Maybe (eqb (t .other) 1) 32 (t .bits)
   checked : t .checked ≤ 1
@@ -212,9 +212,9 @@ other-length : (version : ℕ) → Kept Numbered (Wide 32) (otherLength version)
 unfolding otherLength
 other-length version = either _ (λ _. get-value) (λ _. groups-from 4 0 0 (omega arith))
 
-mux-tail : (version : ℕ) → Kept Numbered TailOk (muxTail version)
-unfolding muxTail
-mux-tail version =
+mux-ending : (version : ℕ) → Kept Numbered EndingOk (muxEnding version)
+unfolding muxEnding
+mux-ending version =
     on _ (a-field _ _) λ o lo. on _ (if-sent _ 32 (other-length version)) λ b hb. on _ (a-field _ _) λ c lc.
     on _ (if-sent _ 8 (a-field _ _)) λ d hd.
     gives (record { other = omega arith; bits = hb; checked = omega arith; crc = hd })
@@ -245,7 +245,7 @@ nothing-begun version last = record {
       };
 }
 
-read-ok : (h : Head) (g : Places) (t : Tail) → HeadOk h → Placed (h .version) (h .programs) g → TailOk t
+read-ok : (h : Head) (g : Places) (t : Ending) → HeadOk h → Placed (h .version) (h .programs) g → EndingOk t
     → ReadOk (recordOf h g t)
 read-ok h g t hh hg ht =
     let b = hg .begun in
@@ -280,5 +280,5 @@ pub mux : Kept Numbered ReadOk streamMuxConfig
 unfolding streamMuxConfig
 mux =
     on _ head λ h hh. on _ (all-programs _ _ _ 0 0 noPlaces (hh .version) (hh .programs) (omega arith)
-    (nothing-begun _ _)) λ g hg. on _ (mux-tail _) λ t ht.
+    (nothing-begun _ _)) λ g hg. on _ (mux-ending _) λ t ht.
     gives (read-ok h g t hh hg ht)

@@ -18,7 +18,7 @@ use Rattle.records.specs.Table.{streamsIn}
 use Rattle.records.proofs.Tables.{streams-next}
 use Rattle.records.proofs.Theorems.{same-means-equal, equal-means-same}
 use Rattle.config.specs.Mux.{configBits, frameLengthBits, layerBits, configAt, layersBits, programsBits}
-use Rattle.config.specs.Mux.{muxTailBits, muxBits}
+use Rattle.config.specs.Mux.{muxEndingBits, muxBits}
 use Rattle.config.specs.Claims.{bitsBefore, SaysSame}
 
 -- ---- layers in two runs, and programs
@@ -84,7 +84,7 @@ module _ (r : Record) (p l : ℕ) (hp : p ≤ r .programs) (hl : l ≤ getD (r .
   behindIt =
       layersBits (r .version) (getD (r .layers) p 0 - l) (i + 1) (r .streams)
       ++ (programsBits (r .version) (r .programs - p) (p + 1)
-      (streamsIn (r .layers) (r .programs) p + (getD (r .layers) p 0 + 1)) (r .layers) (r .streams) ++ muxTailBits r)
+      (streamsIn (r .layers) (r .programs) p + (getD (r .layers) p 0 + 1)) (r .layers) (r .streams) ++ muxEndingBits r)
 
   program-is : layersBits (r .version) (getD (r .layers) p 0 + 1) (streamsIn (r .layers) (r .programs) p) (r .streams)
       ≡ layersBits (r .version) l (streamsIn (r .layers) (r .programs) p) (r .streams)

@@ -20,7 +20,7 @@ use Rattle.records.specs.Blank.{noStream}
 use Rattle.records.specs.Same.{sameConfig}
 use Rattle.records.proofs.Theorems.{equal-means-same}
 use Rattle.config.specs.declared.Head.{Head}
-use Rattle.config.specs.declared.Tail.{Tail}
+use Rattle.config.specs.declared.Ending.{Ending}
 use Rattle.config.specs.declared.Places.{Places}
 use Rattle.numbers.specs.Values.{latmGetValue, valueBits, groupsFrom, groupBits}
 use Rattle.asc.specs.Asc.{ascBits}
@@ -28,7 +28,7 @@ use Rattle.numbers.proofs.Shortest.{value-more, value-end, groups-end}
 use Rattle.asc.proofs.ShortestAsc.{asc-end}
 use Rattle.config.specs.Mux.{windowed, configuration, configBits, frameLength, frameLengthBits, sentOrSame, layer}
 use Rattle.config.specs.Mux.{layerBits, configAt, layers, layersBits, programs, programsBits, muxVersionA}
-use Rattle.config.specs.Mux.{muxHead, muxHeadBits, otherLength, muxTail, muxTailBits, noPlaces, recordOf}
+use Rattle.config.specs.Mux.{muxHead, muxHeadBits, otherLength, muxEnding, muxEndingBits, noPlaces, recordOf}
 use Rattle.config.specs.Mux.{streamMuxConfig, muxBits}
 
 -- ---- a configuration
@@ -179,7 +179,7 @@ tara-end : (t : Bool) (p : ℕ)
 tara-end t p = end-choose t (λ e. rw e (end-map (λ x q (h, _). h) (value-end p))) (λ e. rw e (end-give (omega arith)))
 
 head-end : (p : ℕ) → Ends (λ h q. (h .programs ≤ 15)
-    × ((g : Places) (t : Tail) → p + length (muxHeadBits (recordOf h g t)) ≤ q)) muxHead p
+    × ((g : Places) (t : Ending) → p + length (muxHeadBits (recordOf h g t)) ≤ q)) muxHead p
 unfolding muxHead muxHeadBits
 head-end p =
     end-field Open 1 _ λ v _ _. end-on _ (subversion-end (eqb v 1) (p + 1)) λ a q h.
@@ -200,10 +200,10 @@ crc-end t p =
     end-choose t (λ e. rw e (end-last Open 8 (λ v _ _. simp length-bitsOf (omega arith))))
     (λ e. rw e (end-give (omega arith)))
 
-tail-end : (version p : ℕ) → Ends (λ t q. (h : Head) (g : Places) → h .version ≡ version
-    → p + length (muxTailBits (recordOf h g t)) ≤ q) (muxTail version) p
-unfolding muxTail muxTailBits otherLength
-tail-end version p =
+ending-end : (version p : ℕ) → Ends (λ t q. (h : Head) (g : Places) → h .version ≡ version
+    → p + length (muxEndingBits (recordOf h g t)) ≤ q) (muxEnding version) p
+unfolding muxEnding muxEndingBits otherLength
+ending-end version p =
     end-field Open 1 _ λ o _ _. end-on _ (length-end (eqb o 1) (eqb version 1) (p + 1)) λ b q h.
     end-field Open 1 _ λ c _ _. end-on _ (crc-end (eqb c 1) (q + 1)) λ x r k.
     end-give (λ d g e. rw e (simp (length-append, length-bitsOf) (omega arith)))
@@ -215,4 +215,4 @@ unfolding streamMuxConfig muxBits
 mux-end p =
     end-on _ (head-end p) λ h q (few, a).
     end-on _ (programs-end (h .version) (h .programs + 1) 0 0 noPlaces q refl refl (omega arith)) λ g r (_, _, b).
-    end-on _ (tail-end (h .version) r) λ t u c. end-give (simp length-append (omega (arith, a g t, b, c h g refl)))
+    end-on _ (ending-end (h .version) r) λ t u c. end-give (simp length-append (omega (arith, a g t, b, c h g refl)))

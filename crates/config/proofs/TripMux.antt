@@ -24,13 +24,13 @@ use Rattle.records.specs.Same.{sameConfig}
 use Rattle.records.specs.Table.{streamsIn}
 use Rattle.records.specs.Valid.{validConfig, validSlot, validStream, validOf}
 use Rattle.config.specs.declared.Head.{Head}
-use Rattle.config.specs.declared.Tail.{Tail}
+use Rattle.config.specs.declared.Ending.{Ending}
 use Rattle.config.specs.declared.Places.{Places}
 use Rattle.numbers.specs.Values.{latmGetValue, valueBits, groupsFrom, groupBits}
 use Rattle.asc.specs.Asc.{audioSpecificConfig, ascBits}
 use Rattle.config.specs.Mux.{windowed, configuration, configBits, frameLength, frameLengthBits, sentOrSame, layer}
 use Rattle.config.specs.Mux.{layerBits, configAt, layers, layersBits, programs, programsBits, muxVersionA}
-use Rattle.config.specs.Mux.{muxHead, muxHeadBits, otherLength, muxTail, muxTailBits, noPlaces, streamMuxConfig}
+use Rattle.config.specs.Mux.{muxHead, muxHeadBits, otherLength, muxEnding, muxEndingBits, noPlaces, streamMuxConfig}
 use Rattle.config.specs.Mux.{muxBits}
 use Rattle.records.proofs.Apart.{SlotOk, of-type-0, of-type-1, slot-ok, RecordOk, record-ok}
 use Rattle.records.proofs.Tables.{streams-next, streams-upto, streams-end}
@@ -183,8 +183,8 @@ headOf r =
       programs = r .programs;
     }
 
-tailOf : Record → Tail
-tailOf r = record { other = r .other; bits = r .bits; checked = r .checked; crc = r .crc }
+endingOf : Record → Ending
+endingOf r = record { other = r .other; bits = r .bits; checked = r .checked; crc = r .crc }
 
 subversion-trip : (at a : ℕ) → a ≡ 0 → Reads Open at muxVersionA (bitsOf 1 a) a
 unfolding muxVersionA
@@ -206,10 +206,10 @@ length-trip : (at v : ℕ) (t : Bool) → v < 2 ^ 32
 length-trip at v true l = reads-yes _ refl (value-trip at v l)
 length-trip at v false l = reads-no _ refl (groups-trip at v l)
 
-tail-trip : (r : Record) (at : ℕ) → RecordOk r → r .bits < 2 ^ 32
-    → Reads Open at (muxTail (r .version)) (muxTailBits r) (tailOf r)
-unfolding muxTail muxTailBits otherLength tailOf
-tail-trip r at h l =
+ending-trip : (r : Record) (at : ℕ) → RecordOk r → r .bits < 2 ^ 32
+    → Reads Open at (muxEnding (r .version)) (muxEndingBits r) (endingOf r)
+unfolding muxEnding muxEndingBits otherLength endingOf
+ending-trip r at h l =
     reads-on 1 (r .other) _ (omega (arith, h .other))
     (reads-bind _ (reads-maybe (eqb (r .other) 1) 0 (λ _. length-trip (at + 1) (r .bits) (eqb (r .version) 1) l)
     (h .bits))
@@ -242,8 +242,8 @@ places-trip r at kl sl h =
 pub record-trip : (r : Record) (at : ℕ) → length (r .layers) ≡ 16 → length (r .streams) ≡ 16 → r .tara < 2 ^ 32
     → r .bits < 2 ^ 32 → validOf r ≡ true
     → Reads Open at streamMuxConfig (muxBits r) r
-unfolding streamMuxConfig muxBits headOf placesOf tailOf
+unfolding streamMuxConfig muxBits headOf placesOf endingOf
 record-trip r at kl sl tara bits v =
     let h = record-ok r v in
     reads-bind _ (head-trip r at h tara)
-    (reads-bind _ (places-trip r _ kl sl h) (reads-then _ (tail-trip r _ h bits) reads-give))
+    (reads-bind _ (places-trip r _ kl sl h) (reads-then _ (ending-trip r _ h bits) reads-give))

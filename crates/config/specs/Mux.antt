@@ -13,7 +13,7 @@ use Rattle.records.specs.declared.Record.{Record}
 use Rattle.records.specs.Blank.{noStream}
 use Rattle.records.specs.Same.{sameConfig}
 use Rattle.config.specs.declared.Head.{Head}
-use Rattle.config.specs.declared.Tail.{Tail}
+use Rattle.config.specs.declared.Ending.{Ending}
 use Rattle.config.specs.declared.Places.{Places}
 use Rattle.numbers.specs.Values.{latmGetValue, valueBits, groupsFrom, groupBits}
 use Rattle.asc.specs.Asc.{audioSpecificConfig, ascBits}
@@ -130,16 +130,16 @@ unfoldable pub otherLength : ℕ → Reading ℕ
 otherLength version = choose (eqb version 1) latmGetValue (groupsFrom 4 0)
 
 -- from otherDataPresent on
-unfoldable pub muxTail : ℕ → Reading Tail
-muxTail version = do
+unfoldable pub muxEnding : ℕ → Reading Ending
+muxEnding version = do
   other ← field Open 1
   bits ← choose (eqb other 1) (otherLength version) (give 0)
   checked ← field Open 1
   crc ← choose (eqb checked 1) (field Open 8) (give 0)
   give (record { other = other; bits = bits; checked = checked; crc = crc })
 
-unfoldable pub muxTailBits : Record → List Bool
-muxTailBits r =
+unfoldable pub muxEndingBits : Record → List Bool
+muxEndingBits r =
     bitsOf 1 (r .other) ⧺ cond (eqb (r .other) 1)
     (cond (eqb (r .version) 1) (valueBits (r .bits)) (groupBits (r .bits))) []
     ⧺ bitsOf 1 (r .checked) ⧺ cond (eqb (r .checked) 1) (bitsOf 8 (r .crc)) []
@@ -147,7 +147,7 @@ muxTailBits r =
 abbrev pub noPlaces : Places
 noPlaces = record { layers = replicate 16 0; streams = replicate 16 noStream }
 
-abbrev pub recordOf : Head → Places → Tail → Record
+abbrev pub recordOf : Head → Places → Ending → Record
 recordOf h g t = record {
   version = h .version;
   subversion = h .subversion;
@@ -167,8 +167,8 @@ unfoldable pub streamMuxConfig : Reading Record
 streamMuxConfig = do
   h ← muxHead
   g ← programs (h .version) (h .programs + 1) 0 0 noPlaces
-  t ← muxTail (h .version)
+  t ← muxEnding (h .version)
   give (recordOf h g t)
 
 unfoldable pub muxBits : Record → List Bool
-muxBits r = muxHeadBits r ⧺ programsBits (r .version) (r .programs + 1) 0 0 (r .layers) (r .streams) ⧺ muxTailBits r
+muxBits r = muxHeadBits r ⧺ programsBits (r .version) (r .programs + 1) 0 0 (r .layers) (r .streams) ⧺ muxEndingBits r

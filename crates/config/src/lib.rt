@@ -12,7 +12,7 @@ pub struct Head {
 }
 
 // From otherDataPresent on.
-pub struct Tail {
+pub struct Ending {
     pub other: u32,
     pub bits: u32,
     pub checked: u32,

@@ -3,25 +3,14 @@ use mathlib.Core.Path.{_≡_, refl, sym, _∙_}
 use Prim.Native.Nat.{_+_}
 use Rattle.records.specs.Blank.{noRecord}
 use Rattle.config.specs.Mux.{streamMuxConfig, layers, programs, noPlaces}
-use Rattle.config_reader.specs.Answer.{tableAfter, toldStreamed, toldHeaded, toldTailed, placesOf}
-use Rattle.config_reader.specs.Claims.{MuxOnce, StreamedOnce, HeadedOnce, TailedOnce, LayersOnce, ProgramsOnce}
+use Rattle.config_reader.specs.Answer.{tableAfter, toldHeaded, toldEnded, placesOf}
+use Rattle.config_reader.specs.Claims.{MuxOnce, HeadedOnce, EndedOnce, LayersOnce, ProgramsOnce}
 use Rattle.kernel.proofs.Once.{answerOf, once-by}
-use Rattle.config_reader.specs.declared.Streamed.{Streamed}
-use Rattle.config_reader.specs.declared.Streamed.the-variants as streamed
 use Rattle.config_reader.specs.declared.Headed.{Headed}
 use Rattle.config_reader.specs.declared.Headed.the-variants as headed
-use Rattle.config_reader.specs.declared.Tailed.{Tailed}
-use Rattle.config_reader.specs.declared.Tailed.the-variants as tailed
+use Rattle.config_reader.specs.declared.Ended.{Ended}
+use Rattle.config_reader.specs.declared.Ended.the-variants as ended
 use Rattle.config_reader.proofs.Beside.{beside-once}
-
-streamed-back : (x : Streamed)
-    → answerOf (λ v c. streamed.Value (record { stream = v; next = c })) streamed.Refused (toldStreamed x) ≡ x
-streamed-back (streamed.Value r) = refl
-streamed-back (streamed.Refused x) = refl
-
-pub streamed-once : StreamedOnce
-streamed-once =
-    once-by toldStreamed (λ v c. streamed.Value (record { stream = v; next = c })) streamed.Refused streamed-back
 
 headed-back : (x : Headed) → answerOf (λ v c. headed.Value (record { head = v; next = c })) headed.Refused
     (toldHeaded x) ≡ x
@@ -31,13 +20,13 @@ headed-back (headed.Refused x) = refl
 pub headed-once : HeadedOnce
 headed-once = once-by toldHeaded (λ v c. headed.Value (record { head = v; next = c })) headed.Refused headed-back
 
-tailed-back : (x : Tailed) → answerOf (λ v c. tailed.Value (record { tail = v; next = c })) tailed.Refused
-    (toldTailed x) ≡ x
-tailed-back (tailed.Value r) = refl
-tailed-back (tailed.Refused x) = refl
+ended-back : (x : Ended) → answerOf (λ v c. ended.Value (record { ending = v; next = c })) ended.Refused
+    (toldEnded x) ≡ x
+ended-back (ended.Value r) = refl
+ended-back (ended.Refused x) = refl
 
-pub tailed-once : TailedOnce
-tailed-once = once-by toldTailed (λ v c. tailed.Value (record { tail = v; next = c })) tailed.Refused tailed-back
+pub ended-once : EndedOnce
+ended-once = once-by toldEnded (λ v c. ended.Value (record { ending = v; next = c })) ended.Refused ended-back
 
 pub layers-once : LayersOnce
 layers-once version k next streams s at n x y p q =

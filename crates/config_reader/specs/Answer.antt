@@ -4,23 +4,16 @@ use Prim.Native.Nat.{ℕ, _≤_}
 use Rattle.kernel.specs.declared.Reached.{Reached}
 use Rattle.kernel.specs.declared.Reached.the-variants.{To, Refused}
 use Rattle.kernel.specs.Answer.{Told, value, refusal}
-use Rattle.records.specs.declared.Stream.{Stream}
 use Rattle.records.specs.declared.Record.{Record}
 use Rattle.records.specs.Table.{streamsIn, tableOf}
-use Rattle.config_reader.specs.declared.Streamed.{Streamed}
-use Rattle.config_reader.specs.declared.Streamed.the-variants as streamed
 use Rattle.config.specs.declared.Head.{Head}
 use Rattle.config_reader.specs.declared.Headed.{Headed}
 use Rattle.config_reader.specs.declared.Headed.the-variants as headed
-use Rattle.config.specs.declared.Tail.{Tail}
-use Rattle.config_reader.specs.declared.Tailed.{Tailed}
-use Rattle.config_reader.specs.declared.Tailed.the-variants as tailed
+use Rattle.config.specs.declared.Ending.{Ending}
+use Rattle.config_reader.specs.declared.Ended.{Ended}
+use Rattle.config_reader.specs.declared.Ended.the-variants as ended
 use Rattle.config.specs.declared.Places.{Places}
 use Rattle.config_reader.specs.declared.Placed.{Placed}
-
-abbrev pub toldStreamed : Streamed → Told Stream
-toldStreamed (streamed.Value r) = value (r .stream) (r .next .at) (r .next .fields)
-toldStreamed (streamed.Refused x) = refusal x
 
 abbrev pub toldHeaded : Headed → Told Head
 toldHeaded (headed.Value r) = value (r .head) (r .next .at) (r .next .fields)
@@ -31,9 +24,9 @@ abbrev pub FewPrograms : Headed → Type 0
 FewPrograms (headed.Value r) = (r .head .programs ≤ 15) × (r .head .subframes ≤ 63)
 FewPrograms (headed.Refused x) = Unit {0}
 
-abbrev pub toldTailed : Tailed → Told Tail
-toldTailed (tailed.Value r) = value (r .tail) (r .next .at) (r .next .fields)
-toldTailed (tailed.Refused x) = refusal x
+abbrev pub toldEnded : Ended → Told Ending
+toldEnded (ended.Value r) = value (r .ending) (r .next .at) (r .next .fields)
+toldEnded (ended.Refused x) = refusal x
 
 -- a fact that holds where nothing was refused, and where something was
 abbrev pub IfReached : Reached → Type 0 → Type 0

@@ -7,18 +7,15 @@ use Rattle.records.specs.declared.Stream.{Stream}
 use Rattle.config_reader.specs.declared.Filled.{Filled}
 use Rattle.config_reader.specs.declared.Placed.{Placed}
 use Rattle.config_reader.specs.declared.Mux.{Mux}
-use Rattle.config_reader.specs.Answer.{toldStreamed, toldHeaded, toldTailed}
+use Rattle.config_reader.specs.Answer.{toldHeaded, toldEnded}
 use Rattle.config_reader.specs.Promises.{LayersPromise, ProgramsPromise, MuxPromise}
 
 -- each promise allows one answer, and one content of the table lent
-abbrev pub StreamedOnce : Type 0
-StreamedOnce = TellsOnce toldStreamed
-
 abbrev pub HeadedOnce : Type 0
 HeadedOnce = TellsOnce toldHeaded
 
-abbrev pub TailedOnce : Type 0
-TailedOnce = TellsOnce toldTailed
+abbrev pub EndedOnce : Type 0
+EndedOnce = TellsOnce toldEnded
 
 abbrev pub LayersOnce : Type 0
 LayersOnce = (version k next : ℕ) (streams : List Stream) (s : List ℕ) (at n : ℕ) (x y : Filled)

@@ -54,6 +54,7 @@ fn tara_if(el: &[u8], version: u32, c: Cursor) -> Fetched
     Fetched::Value(0, c)
 }
 
+// Up to numProgram.
 pub fn head_of(el: &[u8], c: Cursor) -> Headed
     requires { ⌜ Stands (now el) (c .at) (c .fields) ⌝ }
     ensures told { λ r. ⌜ Tells toldHeaded (now (el .entry)) muxHead (c .at) (c .fields) r ⌝ }

@@ -1,7 +1,7 @@
 // The readers of StreamMuxConfig, one for each production of specs/.
+mod ending_fields;
 mod head_fields;
 mod layers;
-mod tail_fields;
 
 ghost use mathlib.Core.Path.{_≡_};
 ghost use Rattle.kernel.specs.Reading.{Stands};
@@ -10,8 +10,9 @@ ghost use Rattle.kernel.specs.declared.Reached.the-variants.{Refused};
 ghost use Rattle.config.specs.Mux.{recordOf};
 ghost use Rattle.config_reader.specs.Answer.{IfReached, Few};
 ghost use Rattle.config_reader.specs.Promises.{MuxPromise};
+use config::Ending;
 use config::Head;
-use config::Tail;
+use ending_fields::ending_of;
 use head_fields::head_of;
 use kernel::Cursor;
 use kernel::Reached;
@@ -20,36 +21,28 @@ use layers::programs_of;
 use records::Record;
 use records::Stream;
 use records::no_record;
-use tail_fields::tail_of;
 
-// A stream and the cursor behind it.
-pub struct ReadStream {
-    pub stream: Stream,
-    pub next: Cursor,
-}
-
-pub enum Streamed {
-    Value(ReadStream),
-    Refused(Refusal),
-}
-
+// The values up to numProgram and the cursor behind them.
 pub struct ReadHead {
     pub head: Head,
     pub next: Cursor,
 }
 
+// These as they were read, or why they were not.
 pub enum Headed {
     Value(ReadHead),
     Refused(Refusal),
 }
 
-pub struct ReadTail {
-    pub tail: Tail,
+// The values from otherDataPresent on and the cursor behind them.
+pub struct ReadEnding {
+    pub ending: Ending,
     pub next: Cursor,
 }
 
-pub enum Tailed {
-    Value(ReadTail),
+// These as they were read, or why they were not.
+pub enum Ended {
+    Value(ReadEnding),
     Refused(Refusal),
 }
 
@@ -59,12 +52,14 @@ pub struct Filled {
     pub streams: [Stream; 16],
 }
 
+// What was reached, beside numLayer of each program and the streams.
 pub struct Placed {
     pub reached: Reached,
     pub layers: [u32; 16],
     pub streams: [Stream; 16],
 }
 
+// What was reached, beside the record of a whole StreamMuxConfig.
 pub struct Mux {
     pub reached: Reached,
     pub held: Record,
@@ -80,7 +75,7 @@ fn refused_mux(x: Refusal) -> Mux
     }
 }
 
-fn record_of(h: Head, layers: [u32; 16], streams: [Stream; 16], t: Tail) -> Record
+fn record_of(h: Head, layers: [u32; 16], streams: [Stream; 16], t: Ending) -> Record
     ensures { λ r. ⌜ r ≡ recordOf h (record { layers = layers; streams = streams }) t ⌝ }
 {
     Record {
@@ -119,15 +114,15 @@ pub fn stream_mux_config(el: &[u8], c: Cursor, table: &mut [[u8; 8]; 16]) -> Mux
         Reached::To(c2) => c2,
         Reached::Refused(x) => return refused_mux(x),
     };
-    let tailed = match tail_of(el, head.version, c2) {
-        Tailed::Value(r) => r,
-        Tailed::Refused(x) => return refused_mux(x),
+    let ended = match ending_of(el, head.version, c2) {
+        Ended::Value(r) => r,
+        Ended::Refused(x) => return refused_mux(x),
     };
-    let tail = tailed.tail;
+    let ending = ended.ending;
     let layers = placed.layers;
     let streams = placed.streams;
-    let held = record_of(head, layers, streams, tail);
-    let next = tailed.next;
+    let held = record_of(head, layers, streams, ending);
+    let next = ended.next;
     *table = cells;
     Mux {
         reached: Reached::To(next),

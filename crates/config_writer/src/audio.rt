@@ -101,6 +101,7 @@ fn put_tail(out: &mut [u8], at: usize, form: Form) -> usize
     }
 }
 
+// AudioSpecificConfig with its GASpecificConfig.
 pub fn put_asc(out: &mut [u8], at: usize, c: Config) -> usize
     requires { ⌜ at + 130 ≤ 1000000 ⌝ }
     ensures { λ r. ⌜ (r ≤ at + 130) × Put (now (out .entry)) at (ascBits c) (now (out .exit)) r ⌝ }

@@ -14,7 +14,7 @@ ghost use Rattle.records.specs.Same.{sameConfig};
 ghost use Rattle.records.specs.Table.{streamsIn};
 ghost use Rattle.numbers.specs.Values.{valueBits, groupBits};
 ghost use Rattle.config.specs.Mux.{configBits, frameLengthBits, layerBits, configAt, layersBits, programsBits};
-ghost use Rattle.config.specs.Mux.{muxHeadBits, muxTailBits, muxBits};
+ghost use Rattle.config.specs.Mux.{muxHeadBits, muxEndingBits, muxBits};
 use audio::asc_length;
 use audio::put_asc;
 use kernel::put;
@@ -172,9 +172,9 @@ fn put_other_length(out: &mut [u8], at: usize, version: u32, other: u32, bits: u
 }
 
 // From otherDataPresent on.
-fn put_mux_tail(out: &mut [u8], at: usize, r: Record) -> usize
+fn put_mux_ending(out: &mut [u8], at: usize, r: Record) -> usize
     requires { ⌜ at + 46 ≤ 1000000 ⌝ }
-    ensures { λ x. ⌜ (x ≤ at + 46) × Put (now (out .entry)) at (muxTailBits r) (now (out .exit)) x ⌝ }
+    ensures { λ x. ⌜ (x ≤ at + 46) × Put (now (out .entry)) at (muxEndingBits r) (now (out .exit)) x ⌝ }
 {
     let bits = put(out, at, 1, r.other);
     let checked = put_other_length(out, bits, r.version, r.other, r.bits);
@@ -182,6 +182,7 @@ fn put_mux_tail(out: &mut [u8], at: usize, r: Record) -> usize
     put_if(out, crc, r.checked == 1, 8, r.crc)
 }
 
+// A whole StreamMuxConfig.
 pub fn put_mux(out: &mut [u8], at: usize, r: Record) -> usize
     requires { ⌜ (at + 3000 ≤ 1000000) × (r .programs ≤ 15) × (streamsIn (r .layers) (r .programs) 16 ≤ 16) ⌝ }
     ensures { λ x. ⌜ (x ≤ at + 3000) × Put (now (out .entry)) at (muxBits r) (now (out .exit)) x ⌝ }
@@ -190,5 +191,5 @@ pub fn put_mux(out: &mut [u8], at: usize, r: Record) -> usize
     let streams = r.streams;
     let programs = put_head(out, at, r);
     let tail = put_programs(out, programs, r.version, r.programs, layers, streams);
-    put_mux_tail(out, tail, r)
+    put_mux_ending(out, tail, r)
 }

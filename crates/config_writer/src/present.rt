@@ -7,6 +7,7 @@ ghost use Rattle.numbers.specs.Values.{valueBits};
 use kernel::put;
 use numbers::put_value;
 
+// A field of so many bits.
 pub fn put_if(out: &mut [u8], at: usize, present: bool, width: usize, v: u32) -> usize
     requires { ⌜ (at + width ≤ 1000000) × (width ≤ 32) ⌝ }
     ensures { λ r. ⌜ (r ≤ at + width)
@@ -18,6 +19,7 @@ pub fn put_if(out: &mut [u8], at: usize, present: bool, width: usize, v: u32) ->
     at
 }
 
+// A variable value.
 pub fn put_value_if(out: &mut [u8], at: usize, present: bool, v: u32) -> usize
     requires { ⌜ at + 34 ≤ 1000000 ⌝ }
     ensures { λ r. ⌜ (r ≤ at + 34) × Put (now (out .entry)) at (cond present (valueBits v) []) (now (out .exit)) r ⌝ }

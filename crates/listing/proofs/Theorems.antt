@@ -9,7 +9,7 @@ use Rattle.numbers.specs.Values.{bytesFrom, latmGetValue}
 use Rattle.asc.specs.Asc.{objectType, anyType, frequency, channelConfiguration, unset, psExtension, psTail}
 use Rattle.asc.specs.Asc.{sbrExtension, extensionType, syncExtension, tail, gaSpecificConfig, alone}
 use Rattle.asc.specs.Asc.{audioSpecificConfig}
-use Rattle.config.specs.Mux.{windowed, configuration, frameLength, layer, layers, programs, muxHead, muxTail}
+use Rattle.config.specs.Mux.{windowed, configuration, frameLength, layer, layers, programs, muxHead, muxEnding}
 use Rattle.config.specs.Mux.{streamMuxConfig}
 use Rattle.element.specs.Mux.{slotFrom, muxSlotLengthBytes, slotOf, payloadLengthInfo, payloadMux, subframe, subframes}
 use Rattle.element.specs.Mux.{otherData, byteAlignment, applied, useSameStreamMux, afterFlag, audioMuxElement, rest}
@@ -25,7 +25,7 @@ use Rattle.listing.proofs.Digits.{all-said}
 pub worked-listing : WorkedListing
 unfolding textOf framesFrom itemLines firstOf answer audioMuxElement afterFlag useSameStreamMux applied rest
     byteAlignment otherData subframes subframe payloadMux
-    payloadLengthInfo slotOf muxSlotLengthBytes slotFrom streamMuxConfig muxTail muxHead programs layers layer
+    payloadLengthInfo slotOf muxSlotLengthBytes slotFrom streamMuxConfig muxEnding muxHead programs layers layer
     frameLength configuration windowed
     audioSpecificConfig alone gaSpecificConfig tail syncExtension extensionType sbrExtension psTail psExtension unset
     channelConfiguration

@@ -29,6 +29,7 @@ fn bytes_from(el: &[u8], c: Cursor, n: u32) -> Fetched
     Fetched::Value(v, cur)
 }
 
+// A variable value: two bits k, then k + 1 bytes.
 pub fn latm_get_value(el: &[u8], c: Cursor) -> Fetched
     requires { ⌜ Stands (now el) (c .at) (c .fields) ⌝ }
     ensures { λ r. ⌜ Tells toldFetched (now (el .entry)) latmGetValue (c .at) (c .fields) r ⌝ }

@@ -21,7 +21,7 @@ use Rattle.records.specs.declared.Stream.{Stream}
 use Rattle.records.specs.declared.Record.{Record}
 use Rattle.records.specs.Blank.{noStream, noRecord}
 use Rattle.records.specs.Same.{formTag, formFreq, formPs}
-use Rattle.record_words.specs.Words.{freqChoice, freqNumber, streamWords, streamsWords, tailWords, wordsOf}
+use Rattle.record_words.specs.Words.{freqChoice, freqNumber, streamWords, streamsWords, endingWords, wordsOf}
 use Rattle.record_words.specs.Words.{freqFrom, formFrom, streamFrom, layersFrom, streamsFrom, recordFrom}
 use Rattle.record_words.specs.Words.{sameWords, recordIn, laidIn}
 
@@ -115,7 +115,7 @@ module _ (r : Record) (rest : List ℕ) (k : length (r .layers) ≡ 16) (l : len
   w = wordsOf r ++ rest
 
   behind : List ℕ
-  behind = streamsWords (r .streams) ++ (tailWords r ++ rest)
+  behind = streamsWords (r .streams) ++ (endingWords r ++ rest)
 
   from-6 : drop 6 w ≡ r .layers ++ behind
   unfolding w behind
@@ -124,7 +124,7 @@ module _ (r : Record) (rest : List ℕ) (k : length (r .layers) ≡ 16) (l : len
   from-22 : drop 22 w ≡ behind
   from-22 = sym (drop-drop 16 6 w) ∙ rw from-6 (drop-at (r .layers) behind 16 k)
 
-  from-246 : drop 246 w ≡ tailWords r ++ rest
+  from-246 : drop 246 w ≡ endingWords r ++ rest
   unfolding behind
   from-246 =
       sym (drop-drop 224 22 w) ∙ rw from-22
@@ -145,15 +145,15 @@ module _ (r : Record) (rest : List ℕ) (k : length (r .layers) ≡ 16) (l : len
       ∙ rw (
         ← drop-drop (14 * i) 22 w,
         from-22,
-        drop-streams i (r .streams) (tailWords r
+        drop-streams i (r .streams) (endingWords r
             ++ rest) (omega arith),
         streams-turn (r .streams) i (omega arith),
         append-assoc,
       )
-      (found-stream (getD (r .streams) i noStream) (streamsWords (drop (i + 1) (r .streams)) ++ (tailWords r ++ rest)))
+      (found-stream (getD (r .streams) i noStream) (streamsWords (drop (i + 1) (r .streams)) ++ (endingWords r ++ rest)))
 
-  found-tail : (n : ℕ) → getD w (246 + n) 0 ≡ getD (tailWords r ++ rest) n 0
-  found-tail n = sym (getD-drop 246 w n 0) ∙ rw from-246
+  found-ending : (n : ℕ) → getD w (246 + n) 0 ≡ getD (endingWords r ++ rest) n 0
+  found-ending n = sym (getD-drop 246 w n 0) ∙ rw from-246
 
   pub found-record : recordFrom (wordsOf r ++ rest) ≡ r
   unfolding w
@@ -166,10 +166,10 @@ module _ (r : Record) (rest : List ℕ) (k : length (r .layers) ≡ 16) (l : len
     programs = r .programs;
     layers = found-layers i;
     streams = found-streams i;
-    other = found-tail 0 i;
-    bits = found-tail 1 i;
-    checked = found-tail 2 i;
-    crc = found-tail 3 i;
+    other = found-ending 0 i;
+    bits = found-ending 1 i;
+    checked = found-ending 2 i;
+    crc = found-ending 3 i;
   }
 
 -- ---- words compared

@@ -48,12 +48,12 @@ streamsWords (s ∷ streams) = streamWords s ++ streamsWords streams
 abbrev pub headWords : Record → List ℕ
 headWords r = r .version ∷ r .subversion ∷ r .tara ∷ r .framing ∷ r .subframes ∷ r .programs ∷ []
 
-abbrev pub tailWords : Record → List ℕ
-tailWords r = r .other ∷ r .bits ∷ r .checked ∷ r .crc ∷ []
+abbrev pub endingWords : Record → List ℕ
+endingWords r = r .other ∷ r .bits ∷ r .checked ∷ r .crc ∷ []
 
 -- 250 words
 abbrev pub wordsOf : Record → List ℕ
-wordsOf r = headWords r ++ (r .layers ++ (streamsWords (r .streams) ++ tailWords r))
+wordsOf r = headWords r ++ (r .layers ++ (streamsWords (r .streams) ++ endingWords r))
 
 -- ---- the record of words
 

@@ -4,7 +4,7 @@ ghost use Prim.Native.Nat.{_+_, _≤_};
 ghost use lib.ListN.{length};
 ghost use Rattle.kernel.specs.Lists.{Stored};
 ghost use Rattle.record_words.specs.Words.{freqChoice, freqNumber, formWords, streamWords, streamsWords};
-ghost use Rattle.record_words.specs.Words.{headWords, tailWords, wordsOf};
+ghost use Rattle.record_words.specs.Words.{headWords, endingWords, wordsOf};
 ghost use Rattle.record_words.specs.Promises.{LayPromise};
 use records::Form;
 use records::Freq;
@@ -127,9 +127,9 @@ fn lay_head(out: &mut [u32], r: Record) -> usize
     lay(out, 0, &words)
 }
 
-fn lay_tail(out: &mut [u32], at: usize, r: Record) -> usize
+fn lay_ending(out: &mut [u32], at: usize, r: Record) -> usize
     requires { ⌜ at + 4 ≤ length (now out) ⌝ }
-    ensures { λ x. ⌜ (x ≡ at + 4) × Stored (now (out .entry)) at (tailWords r) (now (out .exit)) x ⌝ }
+    ensures { λ x. ⌜ (x ≡ at + 4) × Stored (now (out .entry)) at (endingWords r) (now (out .exit)) x ⌝ }
 {
     let words = [r.other, r.bits, r.checked, r.crc];
     lay(out, at, &words)
@@ -143,8 +143,8 @@ fn lay_all(out: &mut [u32], r: Record) -> usize
     let streams = r.streams;
     let head = lay_head(out, r);
     let first = lay_layers(out, head, layers);
-    let tail = lay_streams(out, first, streams);
-    lay_tail(out, tail, r)
+    let ending = lay_streams(out, first, streams);
+    lay_ending(out, ending, r)
 }
 
 // Lays the words at the start, where there is room for 250.

@@ -18,7 +18,7 @@ use Rattle.records.specs.declared.Record.{Record}
 use Rattle.records.specs.Blank.{noStream}
 use Rattle.records.specs.Table.{streamsIn}
 use Rattle.records.specs.Valid.{validFreq, validForm, validConfig, validSlot, validStream, blankFreq, blankForm}
-use Rattle.records.specs.Valid.{blankStream, layersOk, streamsOk, headOk, tailOk, validOf}
+use Rattle.records.specs.Valid.{blankStream, layersOk, streamsOk, headOk, endingOk, validOf}
 
 -- ---- a configuration
 
@@ -188,7 +188,7 @@ pub record-ok : (r : Record) → validOf r ≡ true → RecordOk r
 record-ok r h =
     let n = streamsIn (r .layers) (r .programs) 16 in
     let q =
-    five (headOk r) (tailOk r) (layersOk (r .layers) (r .programs)) (leb n 16)
+    five (headOk r) (endingOk r) (layersOk (r .layers) (r .programs)) (leb n 16)
     (streamsOk (r .version) n (r .streams)) h in
     let a = eqb (r .version) 1 || eqb (r .tara) 0 in
     let b = eqb (r .other) 1 || eqb (r .bits) 0 in
@@ -239,8 +239,8 @@ head-valid r h =
       le-leb (r .programs) 15 (h .programs),
     )
 
-tail-valid : (r : Record) → RecordOk r → tailOk r ≡ true
-tail-valid r h =
+ending-valid : (r : Record) → RecordOk r → endingOk r ≡ true
+ending-valid r h =
     rw (
       le-leb (r .other) 1 (h .other),
       or-else (eqb (r .other) 1) (eqb (r .bits) 0) (λ e. eq-eqb (r .bits) 0 (h .bits e)),
@@ -270,7 +270,7 @@ pub record-valid : (r : Record) → RecordOk r → validOf r ≡ true
 record-valid r h =
     rw (
       head-valid r h,
-      tail-valid r h,
+      ending-valid r h,
       layers-valid r h,
       le-leb (streamsIn (r .layers) (r .programs) 16) 16
           (h .count),

@@ -83,13 +83,13 @@ headOk r =
     leb (r .version) 1 && eqb (r .subversion) 0 && (eqb (r .version) 1 || eqb (r .tara) 0) && eqb (r .framing) 1
     && leb (r .subframes) 63 && leb (r .programs) 15
 
-abbrev pub tailOk : Record → Bool
-tailOk r =
+abbrev pub endingOk : Record → Bool
+endingOk r =
     leb (r .other) 1 && (eqb (r .other) 1 || eqb (r .bits) 0) && leb (r .checked) 1
     && (eqb (r .checked) 1 || eqb (r .crc) 0) && leb (r .crc) 255
 
 -- 7: at most 16 streams
 abbrev pub validOf : Record → Bool
 validOf r =
-    headOk r && tailOk r && layersOk (r .layers) (r .programs) && leb (streamsIn (r .layers) (r .programs) 16) 16
+    headOk r && endingOk r && layersOk (r .layers) (r .programs) && leb (streamsIn (r .layers) (r .programs) 16) 16
     && streamsOk (r .version) (streamsIn (r .layers) (r .programs) 16) (r .streams)

@@ -40,6 +40,7 @@ pub struct Config {
     pub form: Form,
 }
 
+// One layer: its configuration and its frame length.
 pub struct Stream {
     pub config: Config,
     pub kind: u32, // frameLengthType
@@ -47,6 +48,7 @@ pub struct Stream {
     pub fixed: u32, // frameLength, of type 1
 }
 
+// A whole StreamMuxConfig.
 pub struct Record {
     pub version: u32, // audioMuxVersion
     pub subversion: u32, // audioMuxVersionA
@@ -72,6 +74,7 @@ const NO_CONFIG: Config = Config {
     form: Form::None,
 };
 
+// A stream of zeros, as it stands where none is.
 pub fn no_stream() -> Stream
     ensures { λ r. ⌜ r ≡ noStream ⌝ }
 {
@@ -83,6 +86,7 @@ pub fn no_stream() -> Stream
     }
 }
 
+// The record of zeros.
 pub fn no_record() -> Record
     ensures { λ r. ⌜ r ≡ noRecord ⌝ }
 {

@@ -2,7 +2,7 @@
 ghost use mathlib.Core.Path.{_≡_};
 ghost use Rattle.records.specs.Valid.{validFreq, validForm, validConfig, validSlot, validStream, blankFreq};
 ghost use Rattle.records.specs.Valid.{blankForm, blankStream};
-ghost use Rattle.records.specs.Valid.{streamOk, streamsOk, layerOk, layersOk, headOk, tailOk, validOf};
+ghost use Rattle.records.specs.Valid.{streamOk, streamsOk, layerOk, layersOk, headOk, endingOk, validOf};
 use crate::Config;
 use crate::Form;
 use crate::Freq;
@@ -154,8 +154,8 @@ fn head_ok(r: Record) -> bool
         & (r.programs <= 15)
 }
 
-fn tail_ok(r: Record) -> bool
-    ensures { λ b. ⌜ b ≡ tailOk r ⌝ }
+fn ending_ok(r: Record) -> bool
+    ensures { λ b. ⌜ b ≡ endingOk r ⌝ }
 {
     (r.other <= 1)
         & ((r.other == 1) | (r.bits == 0))
@@ -172,7 +172,7 @@ pub fn valid(r: Record) -> bool
     let streams = r.streams;
     let k = streams_in(layers, r.programs);
     head_ok(r)
-        & tail_ok(r)
+        & ending_ok(r)
         & layers_ok(layers, r.programs)
         & (k <= 16)
         & streams_ok(r.version, k, streams)

@@ -70,6 +70,7 @@ fn same_form(a: Form, b: Form) -> bool
         & same_freq(form_freq(a), form_freq(b))
 }
 
+// All values of two configurations are equal.
 pub fn same_config(a: Config, b: Config) -> bool
     ensures { λ r. ⌜ r ≡ sameConfig a b ⌝ }
 {

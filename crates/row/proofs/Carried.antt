@@ -18,7 +18,7 @@ use Rattle.records.specs.Table.{streamsIn}
 use Rattle.records.specs.Valid.{validFreq, validForm, validConfig, validSlot, validStream}
 use Rattle.records.proofs.Apart.{config-ok, record-ok}
 use Rattle.records.proofs.Tables.{streams-next, streams-upto}
-use Rattle.row.specs.Row.{hzAt, hzOf, outputOf, channelsOf, rowOf}
+use Rattle.row.specs.Row.{hzAt, hzOf, outputOf, outputChannels, rowOf}
 use Rattle.row.specs.Claims.{Carried, RowsAreCarried}
 use Rattle.row.proofs.Rows.{few-channels}
 
@@ -44,10 +44,10 @@ output-carried version core Flag0 h c = c
 output-carried version core (Flag1 x) h c = freq-carried x (both (eqb version 1) (validFreq x) h .1)
 output-carried version core (FlagPs x b) h c = freq-carried x (three (eqb version 1) (validFreq x) (leb b 1) h .1)
 
-channels-carried : (c : ℕ) → 1 ≤ c → c ≤ 7 → (1 ≤ channelsOf c) × (channelsOf c ≤ 8)
+channels-carried : (c : ℕ) → 1 ≤ c → c ≤ 7 → (1 ≤ outputChannels c) × (outputChannels c ≤ 8)
 channels-carried c lo hi = go (leb c 6) refl
   where
-    go : (t : Bool) → leb c 6 ≡ t → (1 ≤ channelsOf c) × (channelsOf c ≤ 8)
+    go : (t : Bool) → leb c 6 ≡ t → (1 ≤ outputChannels c) × (outputChannels c ≤ 8)
     go true e = let q = few-channels c (leb-true c 6 e) in (omega arith, omega arith)
     go false e = let q : c ≡ 7 = omega (arith, leb-false c 6 e) in rw q (omega arith, omega arith)
 

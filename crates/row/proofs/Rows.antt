@@ -14,10 +14,10 @@ use Rattle.records.specs.Valid.{validOf}
 use Rattle.records.proofs.Apart.{record-ok}
 use Rattle.records.proofs.Tables.{cell-at, cell-there, streams-next, streams-upto}
 use Rattle.row.specs.declared.Rowed.the-variants.{Is, Absent}
-use Rattle.row.specs.Row.{channelsOf, rowOf, numbered, rowIn}
+use Rattle.row.specs.Row.{outputChannels, rowOf, numbered, rowIn}
 use Rattle.row.specs.Claims.{IsThere, cellIn}
 
-pub few-channels : (c : ℕ) → c ≤ 6 → c ≡ channelsOf c
+pub few-channels : (c : ℕ) → c ≤ 6 → c ≡ outputChannels c
 few-channels zero h = refl
 few-channels (suc zero) h = refl
 few-channels (suc (suc zero)) h = refl
@@ -27,7 +27,7 @@ few-channels (suc (suc (suc (suc (suc zero))))) h = refl
 few-channels (suc (suc (suc (suc (suc (suc zero)))))) h = refl
 few-channels (suc (suc (suc (suc (suc (suc (suc n))))))) h = omega arith
 
-pub past-channels : (c : ℕ) → 8 ≤ c → 0 ≡ channelsOf c
+pub past-channels : (c : ℕ) → 8 ≤ c → 0 ≡ outputChannels c
 past-channels c h = sym (List·getD-eq-default (0 ∷ 1 ∷ 2 ∷ 3 ∷ 4 ∷ 5 ∷ 6 ∷ 8 ∷ []) 0 h)
 
 -- ---- in the record's own table

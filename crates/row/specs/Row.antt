@@ -58,8 +58,8 @@ abbrev pub outputOf : Form → ℕ → ℕ
 outputOf f core = cond (isOne (sbrOf f)) (hzOf (formFreq f)) core
 
 -- the channels of configurations 1 to 7, and 0 of any other
-abbrev pub channelsOf : ℕ → ℕ
-channelsOf c = getD (0 ∷ 1 ∷ 2 ∷ 3 ∷ 4 ∷ 5 ∷ 6 ∷ 8 ∷ []) c 0
+abbrev pub outputChannels : ℕ → ℕ
+outputChannels c = getD (0 ∷ 1 ∷ 2 ∷ 3 ∷ 4 ∷ 5 ∷ 6 ∷ 8 ∷ []) c 0
 
 abbrev pub rowOf : ℕ → ℕ → Stream → Row
 rowOf p l s = record {
@@ -70,7 +70,7 @@ rowOf p l s = record {
   output = outputOf (s .config .form) (hzOf (s .config .freq));
   sbr = sbrOf (s .config .form);
   ps = psOf (s .config .form);
-  channels = channelsOf (s .config .channels);
+  channels = outputChannels (s .config .channels);
 }
 
 -- the row of stream number i of a record, where there is one

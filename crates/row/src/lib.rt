@@ -3,7 +3,7 @@ ghost use mathlib.Core.Path.{_≡_};
 ghost use mathlib.Core.List.{[]};
 ghost use Prim.Native.Nat.{_<_};
 ghost use lib.ListN.{getD};
-ghost use Rattle.row.specs.Row.{hzAt, hzOf, sbrOf, psOf, outputOf, channelsOf, rowOf, rowIn};
+ghost use Rattle.row.specs.Row.{hzAt, hzOf, sbrOf, psOf, outputOf, outputChannels, rowOf, rowIn};
 use records::Form;
 use records::Freq;
 use records::Record;
@@ -21,6 +21,7 @@ pub struct Row {
     pub channels: u32, // of the output
 }
 
+// The row of a program's layer, where there is such a layer.
 pub enum Rowed {
     Is(Row),
     Absent,
@@ -100,8 +101,8 @@ fn output_of(f: Form, core: u32) -> u32
     }
 }
 
-fn channels_of(c: u32) -> u32
-    ensures { λ r. ⌜ r ≡ channelsOf c ⌝ }
+fn output_channels(c: u32) -> u32
+    ensures { λ r. ⌜ r ≡ outputChannels c ⌝ }
 {
     match c {
         1..=6 => c,
@@ -120,7 +121,7 @@ fn stream_row(program: u32, layer: u32, s: Stream) -> Row
     let output = output_of(f, rate);
     let sbr = sbr_of(f);
     let ps = ps_of(f);
-    let channels = channels_of(c.channels);
+    let channels = output_channels(c.channels);
     Row {
         program: program,
         layer: layer,

@@ -2,6 +2,7 @@
 use kernel::Refusal;
 use row::Row;
 
+// Prints these bytes.
 pub fn say(words: &[u8]) {
     io::write_all(1, words);
 }
@@ -12,6 +13,7 @@ pub fn say_number(n: usize) {
     io::print_decimal(1, n as u64);
 }
 
+// The same of a word.
 pub fn say_word(n: u32) {
     say_number(n as usize);
 }
@@ -29,6 +31,7 @@ fn say_flag(flag: i32) {
     say(b" 1");
 }
 
+// A refusal, on a line.
 pub fn say_refused(x: Refusal) {
     say(b"refused,");
     say_number(x.number);
@@ -39,6 +42,7 @@ pub fn say_refused(x: Refusal) {
     say(b"\n");
 }
 
+// A row, on a line.
 pub fn say_row(r: Row) {
     say(b"row");
     say_word(r.program);

@@ -8,6 +8,7 @@ use crate::answers::say_number;
 use crate::answers::say_refused;
 use kernel::Refusal;
 
+// Sets all bytes lent to 7.
 pub fn set_all(out: &mut [u8])
     ensures { λ _. ⌜ now (out .exit) ≡ sevens (length (now (out .entry))) ⌝ }
 {
@@ -54,6 +55,7 @@ fn say_bytes(out: &[u8], n: usize) {
     say(b"\n");
 }
 
+// The bytes written, and whether those behind them were kept.
 pub fn say_done(out: &[u8], n: usize) {
     say(b"done");
     say_number(n);
@@ -62,6 +64,7 @@ pub fn say_done(out: &[u8], n: usize) {
     say_kept(out, n);
 }
 
+// A refusal, and whether all that was lent was kept.
 pub fn say_stopped(out: &[u8], x: Refusal) {
     say_refused(x);
     say_kept(out, 0);

@@ -14,7 +14,7 @@ use kernel::Window;
 use kernel::fetch;
 
 // Length bytes, added until one is not 255. An element has fewer than 8,192.
-fn slot_bytes(el: &[u8], c: Cursor) -> Fetched
+fn length_bytes(el: &[u8], c: Cursor) -> Fetched
     requires { ⌜ Stands (now el) (c .at) (c .fields) ⌝ }
     ensures { λ r. ⌜ Tells toldFetched (now (el .entry)) muxSlotLengthBytes (c .at) (c .fields) r ⌝ }
 {
@@ -44,7 +44,7 @@ fn slot_bits(el: &[u8], fixed: u32, c: Cursor) -> Fetched
     if fixed != 0 {
         return Fetched::Value(fixed, c);
     }
-    let a = slot_bytes(el, c);
+    let a = length_bytes(el, c);
     let Fetched::Value(v, c1) = a else {
         return a;
     };

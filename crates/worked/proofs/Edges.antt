@@ -10,7 +10,7 @@ use Rattle.asc.specs.Asc.{objectType, anyType, hertz, frequency, channelConfigu
 use Rattle.asc.specs.Asc.{sbrExtension, extensionType, syncExtension, tail, gaSpecificConfig, alone, underFront}
 use Rattle.asc.specs.Asc.{audioSpecificConfig}
 use Rattle.config.specs.Mux.{windowed, configuration, frameLength, sentOrSame, layer, layers, programs, muxVersionA}
-use Rattle.config.specs.Mux.{muxHead, otherLength, muxTail, streamMuxConfig}
+use Rattle.config.specs.Mux.{muxHead, otherLength, muxEnding, streamMuxConfig}
 use Rattle.element.specs.Mux.{slotFrom, slotOf, payloadLengthInfo, payloadMux, subframe, subframes, otherData}
 use Rattle.element.specs.Mux.{byteAlignment, applied, useSameStreamMux, afterFlag, audioMuxElement, rest}
 use Rattle.element.specs.Mux.{muxSlotLengthBytes}
@@ -25,7 +25,7 @@ a & b = (a, b)
 pub edges-come-out : Edges
 unfolding AllComeOut edges answer numbers audioMuxElement afterFlag useSameStreamMux applied rest byteAlignment
     otherData subframes subframe payloadMux
-    payloadLengthInfo slotOf muxSlotLengthBytes slotFrom streamMuxConfig muxTail muxHead muxVersionA programs layers
+    payloadLengthInfo slotOf muxSlotLengthBytes slotFrom streamMuxConfig muxEnding muxHead muxVersionA programs layers
     layer sentOrSame frameLength configuration windowed
     audioSpecificConfig alone underFront gaSpecificConfig tail syncExtension extensionType sbrExtension psTail
     psExtension unset channelConfiguration

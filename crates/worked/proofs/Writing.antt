@@ -5,7 +5,7 @@ use Rattle.kernel.specs.Lists.{tab, allOf}
 use Rattle.records.specs.Table.{streamsIn}
 use Rattle.numbers.specs.Values.{valueBits}
 use Rattle.asc.specs.Asc.{freqBits, tailBits, frontBits, underBits, ascBits}
-use Rattle.config.specs.Mux.{configBits, frameLengthBits, layerBits, layersBits, programsBits, muxHeadBits, muxTailBits}
+use Rattle.config.specs.Mux.{configBits, frameLengthBits, layerBits, layersBits, programsBits, muxHeadBits, muxEndingBits}
 use Rattle.config.specs.Mux.{muxBits}
 use Rattle.writer.specs.Written.{bitsIn, onesBits, lengthBits, lengthsBits, payloadPieces, sumOf, subframePieces}
 use Rattle.writer.specs.Write.{rowFits, slotsFit}
@@ -14,6 +14,6 @@ use Rattle.worked.specs.Writing.{WorkedWriting}
 pub worked-writing : WorkedWriting
 unfolding odd bitsOf number unpack pack tab allOf streamsIn valueBits freqBits tailBits frontBits underBits ascBits
     configBits frameLengthBits layerBits layersBits
-    programsBits muxHeadBits muxTailBits muxBits bitsIn onesBits lengthBits lengthsBits payloadPieces sumOf
+    programsBits muxHeadBits muxEndingBits muxBits bitsIn onesBits lengthBits lengthsBits payloadPieces sumOf
     subframePieces rowFits slotsFit
 worked-writing = ((refl, refl), (refl, refl), (refl, refl), (refl, refl), (refl, refl), (refl, refl))

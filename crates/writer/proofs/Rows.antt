@@ -15,7 +15,7 @@ use Rattle.records.specs.Blank.{noStream}
 use Rattle.writer.specs.Written.{onesBits, lengthBits, slotBits, lengthsBits, sumOf}
 use Rattle.writer.specs.Write.{slotFits, rowFits}
 use Rattle.writer.specs.declared.Measure.{Measure}
-use Rattle.writer.specs.Sizes.{slotBytes, rowBytes, measureOf}
+use Rattle.writer.specs.Sizes.{bytesOfLength, rowBytes, measureOf}
 
 -- a length of 255 bytes or more, and one of less
 pub length-turn : (n : ℕ) → 255 ≤ n → lengthBits n ≡ bitsOf 8 255 ++ lengthBits (n - 255)
@@ -49,7 +49,7 @@ module _ (ss : List Stream) (ns : List ℕ) (i at : ℕ) (h : i < length ss) whe
   fits-turn = rw (stream-is, slot-is, next-is)
 
   pub bytes-turn : rowBytes (drop i ss) (drop at ns)
-      ≡ slotBytes (getD ss i noStream) (getD ns at 0) + rowBytes (drop (i + 1) ss) (drop (at + 1) ns)
+      ≡ bytesOfLength (getD ss i noStream) (getD ns at 0) + rowBytes (drop (i + 1) ss) (drop (at + 1) ns)
   unfolding rowBytes
   bytes-turn = rw (stream-is, slot-is, next-is)
 
@@ -80,7 +80,7 @@ module _ (streams : List Stream) (count : ℕ) (ns : List ℕ) (from i : ℕ) (h
   array-fits-turn = rw (← getD-take count streams i noStream h, place-is) (fits-turn row ns i (from + i) inside)
 
   pub array-bytes-turn : rowBytes (drop i row) (drop (from + i) ns)
-      ≡ slotBytes (getD streams i noStream) (getD ns (from + i) 0)
+      ≡ bytesOfLength (getD streams i noStream) (getD ns (from + i) 0)
       + rowBytes (drop (i + 1) row) (drop (from + (i + 1)) ns)
   array-bytes-turn = rw (← getD-take count streams i noStream h, place-is) (bytes-turn row ns i (from + i) inside)
 

@@ -14,12 +14,12 @@ use Rattle.writer.specs.Written.{piece, bitsIn, configPieces, sumOf}
 use Rattle.writer.specs.Write.{rowFits, slotsFit}
 
 -- length bytes of one slot, of a row of slots, of n subframes
-abbrev pub slotBytes : Stream → ℕ → ℕ
-slotBytes s n = cond (eqb (s .kind) 0) (n / 255 + 1) 0
+abbrev pub bytesOfLength : Stream → ℕ → ℕ
+bytesOfLength s n = cond (eqb (s .kind) 0) (n / 255 + 1) 0
 
 unfoldable pub rowBytes : List Stream → List ℕ → ℕ
 rowBytes [] ns = 0
-rowBytes (s ∷ ss) ns = slotBytes s (getD ns 0 0) + rowBytes ss (drop 1 ns)
+rowBytes (s ∷ ss) ns = bytesOfLength s (getD ns 0 0) + rowBytes ss (drop 1 ns)
 
 unfoldable pub lengthBytes : ℕ → List Stream → List ℕ → ℕ
 lengthBytes zero ss ns = 0

@@ -3,7 +3,7 @@ ghost use mathlib.Core.Path.{_≡_};
 ghost use Prim.Native.Nat.{_+_, _*_, _≤_};
 ghost use lib.ListN.{length, take, drop};
 ghost use Rattle.writer.specs.Write.{slotFits, otherBytes};
-ghost use Rattle.writer.specs.Sizes.{slotBytes, measureOf, measureAll};
+ghost use Rattle.writer.specs.Sizes.{bytesOfLength, measureOf, measureAll};
 use crate::Measure;
 use records::Record;
 use records::Stream;
@@ -14,8 +14,8 @@ fn slot_fits(s: Stream, n: u32) -> bool
     (s.kind == 0) | (n as usize == s.fixed as usize + 20)
 }
 
-fn slot_bytes(s: Stream, n: u32) -> usize
-    ensures is { λ r. ⌜ r ≡ slotBytes s n ⌝ }
+fn bytes_of_length(s: Stream, n: u32) -> usize
+    ensures is { λ r. ⌜ r ≡ bytesOfLength s n ⌝ }
     ensures small { λ r. ⌜ r ≤ 16843010 ⌝ }
 {
     if s.kind == 0 {
@@ -38,7 +38,7 @@ pub fn measure_row(streams: [Stream; 16], count: usize, ns: &[u32], from: usize)
         let s = streams[i];
         let n = ns[from + i];
         fits = fits & slot_fits(s, n);
-        lengths += slot_bytes(s, n);
+        lengths += bytes_of_length(s, n);
         payload += n as usize;
         i += 1;
     }
@@ -75,6 +75,7 @@ pub fn measure_all(streams: [Stream; 16], count: usize, n: usize, ns: &[u32]) ->
     }
 }
 
+// The bytes that hold the other data of a record.
 pub fn other_bytes(r: Record) -> usize
     ensures { λ x. ⌜ x ≡ otherBytes r ⌝ }
 {

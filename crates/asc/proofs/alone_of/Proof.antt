@@ -47,13 +47,5 @@ returns-3 c = ends (formed (c .before .before .before)) refl gives
 pub alone-of-spec : {M : Type 1} → statement M
 alone-of-spec =
     tie.close
-    (tie.spec
-    (λ c κs. search needs)
-    (λ c. search needs)
-    (λ c. search needs)
-    returns
-    tail-of-requires
-    (λ c. search needs)
-    (λ c. search needs)
-    returns-2
-    returns-3)
+    (tie.spec (λ c κs. search needs) (λ c. search needs) (λ c. search needs) returns tail-of-requires
+    (λ c. search needs) (λ c. search needs) returns-2 returns-3)

@@ -29,7 +29,7 @@ abbrev channelled : (c : tie.After-four)
 unfolding audioSpecificConfig
 channelled c =
     then (rated (c .before .before .before .before)) _ refl
-    (got toldFetched _ _ _ _ (c .before .before .channels-of .ensures) (c .four .given .1))
+    (got toldFetched _ _ _ _ (c .before .before .channel-configuration .ensures) (c .four .given .1))
 
 returns : tie.Need-returns
 unfolding audioSpecificConfig
@@ -49,9 +49,9 @@ returns-2 c =
     stops (typed (x .before .before .before .before)) _ refl
     (got toldRated _ _ _ _ (x .before .before .frequency-of .ensures) (x .x .given .1))
 
-channels-of-requires : tie.Need-channels-of-requires
+channel-configuration-requires : tie.Need-channel-configuration-requires
 unfolding rated
-channels-of-requires c κs = rated (c .before) .stands (omega arith)
+channel-configuration-requires c κs = rated (c .before) .stands (omega arith)
 
 returns-3 : tie.Need-returns-3
 unfolding audioSpecificConfig
@@ -60,7 +60,7 @@ returns-3 c =
     let q = x .enum-told2 .given .1 in
     ap refusal (c .why2 .ensures ∙ ap whyFetched q)
     ∙ stops (rated (x .before .before .before .before)) _ refl
-    (got toldFetched _ _ _ _ (x .before .before .channels-of .ensures) q)
+    (got toldFetched _ _ _ _ (x .before .before .channel-configuration .ensures) q)
 
 alone-of-requires : tie.Need-alone-of-requires
 unfolding channelled
@@ -87,23 +87,7 @@ returns-5 c =
 pub audio-specific-config-spec : {M : Type 1} → statement M
 audio-specific-config-spec =
     tie.close
-    (tie.spec
-    (λ c κs. search needs)
-    (λ c. search needs)
-    (λ c. search needs)
-    (λ c κs. search needs)
-    returns
-    frequency-of-requires
-    (λ c. search needs)
-    (λ c. search needs)
-    returns-2
-    channels-of-requires
-    (λ c. search needs)
-    (λ c. search needs)
-    (λ c κs. search needs)
-    returns-3
-    (λ c κs. search needs)
-    alone-of-requires
-    returns-4
-    under-front-requires
-    returns-5)
+    (tie.spec (λ c κs. search needs) (λ c. search needs) (λ c. search needs) (λ c κs. search needs) returns
+    frequency-of-requires (λ c. search needs) (λ c. search needs) returns-2 channel-configuration-requires
+    (λ c. search needs) (λ c. search needs) (λ c κs. search needs) returns-3 (λ c κs. search needs)
+    alone-of-requires returns-4 under-front-requires returns-5)

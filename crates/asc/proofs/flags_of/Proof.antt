@@ -70,20 +70,6 @@ returns-4 c = ends (at-d (c .before)) refl gives
 pub flags-of-spec : {M : Type 1} → statement M
 flags-of-spec =
     tie.close
-    (tie.spec
-    (λ c κs. search needs)
-    (λ c. search needs)
-    (λ c. search needs)
-    (λ c κs. search needs)
-    returns
-    unset-of-requires
-    (λ c. search needs)
-    (λ c. search needs)
-    (λ c κs. search needs)
-    returns-2
-    unset-of-requires-2
-    (λ c. search needs)
-    (λ c. search needs)
-    (λ c κs. search needs)
-    returns-3
-    returns-4)
+    (tie.spec (λ c κs. search needs) (λ c. search needs) (λ c. search needs) (λ c κs. search needs) returns
+    unset-of-requires (λ c. search needs) (λ c. search needs) (λ c κs. search needs) returns-2 unset-of-requires-2
+    (λ c. search needs) (λ c. search needs) (λ c κs. search needs) returns-3 returns-4)

@@ -69,19 +69,6 @@ returns-4 c = rw (c .before .in-front .ensures) (ends (flagged (c .before .befor
 pub under-front-spec : {M : Type 1} → statement M
 under-front-spec =
     tie.close
-    (tie.spec
-    (λ c κs. search needs)
-    (λ c. search needs)
-    (λ c. search needs)
-    returns
-    object-type-requires
-    (λ c. search needs)
-    (λ c. search needs)
-    (λ c κs. search needs)
-    returns-2
-    flags-of-requires
-    (λ c. search needs)
-    (λ c. search needs)
-    returns-3
-    (λ c κs. search needs)
-    returns-4)
+    (tie.spec (λ c κs. search needs) (λ c. search needs) (λ c. search needs) returns object-type-requires
+    (λ c. search needs) (λ c. search needs) (λ c κs. search needs) returns-2 flags-of-requires (λ c. search needs)
+    (λ c. search needs) returns-3 (λ c κs. search needs) returns-4)

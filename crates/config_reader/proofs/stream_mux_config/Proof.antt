@@ -7,7 +7,7 @@ use Rattle.kernel.specs.Answer.{toldWith}
 use Rattle.kernel.proofs.Chain.{got, gives}
 use Rattle.kernel.proofs.Along.{Along, start, then, stops, ends}
 use Rattle.config.specs.Mux.{streamMuxConfig}
-use Rattle.config_reader.specs.Answer.{toldHeaded, toldTailed, placesOf}
+use Rattle.config_reader.specs.Answer.{toldHeaded, toldEnded, placesOf}
 use Rattle.config_reader.proofs.Beside.{refusing}
 use Rattle.config_reader.proofs.stream_mux_config.Statement.{statement}
 use Rattle.config_reader.proofs.stream_mux_config.Tie as tie
@@ -30,11 +30,11 @@ placed c =
     (got (toldWith (placesOf (p .programs-of .result))) _ _ _ _ (p .programs-of .ensures .0 .0 .0)
     (c .reached .given .1))
 
-abbrev tailed : (c : tie.After-r2) → From (start-2 (c .before .before .before .before))
+abbrev ended : (c : tie.After-r2) → From (start-2 (c .before .before .before .before))
 unfolding streamMuxConfig
-tailed c =
+ended c =
     then (placed (c .before .before .before .before)) _ refl
-    (got toldTailed _ _ _ _ (c .before .before .tail-of .ensures) (c .r2 .given .1))
+    (got toldEnded _ _ _ _ (c .before .before .ending-of .ensures) (c .r2 .given .1))
 
 returns : tie.Need-returns
 unfolding streamMuxConfig
@@ -59,9 +59,9 @@ returns-2 c =
     (got (toldWith (placesOf (p .programs-of .result))) _ _ _ _ (p .programs-of .ensures .0 .0 .0)
     (x .reached2 .given .1)))
 
-tail-of-requires : tie.Need-tail-of-requires
+ending-of-requires : tie.Need-ending-of-requires
 unfolding placed
-tail-of-requires c κs = placed (c .before) .stands (start-2 (c .before) .pre)
+ending-of-requires c κs = placed (c .before) .stands (start-2 (c .before) .pre)
 
 returns-3 : tie.Need-returns-3
 unfolding streamMuxConfig
@@ -69,7 +69,7 @@ returns-3 c =
     let x = c .before .before in
     refusing _ _ _ _ _ _ _ _ (c .refused-mux3 .ensures .0) (c .refused-mux3 .ensures .1)
     (stops (placed (x .before .before .before .before)) _ refl
-    (got toldTailed _ _ _ _ (x .before .before .tail-of .ensures) (x .x2 .given .1)))
+    (got toldEnded _ _ _ _ (x .before .before .ending-of .ensures) (x .x2 .given .1)))
 
 returns-4 : tie.Need-returns-4
 unfolding streamMuxConfig
@@ -80,26 +80,11 @@ returns-4 c =
     let r = p .before .before .before .before in
     let done = rw (v .reached .given .1) at (p .programs-of .ensures) in
     let few = rw (r .r .given .1) at (r .before .before .head-of .ensures .1) in
-    rw (c .before .record-of .ensures) (((ends (tailed t) refl gives, tt), done .0 .1), (few .1, done .1))
+    rw (c .before .record-of .ensures) (((ends (ended t) refl gives, tt), done .0 .1), (few .1, done .1))
 
 pub stream-mux-config-spec : {M : Type 1} → statement M
 stream-mux-config-spec =
     tie.close
-    (tie.spec
-    (λ c κs. search needs)
-    (λ c. search needs)
-    (λ c. search needs)
-    (λ c κs. search needs)
-    returns
-    programs-of-requires
-    (λ c. search needs)
-    (λ c. search needs)
-    (λ c κs. search needs)
-    returns-2
-    tail-of-requires
-    (λ c. search needs)
-    (λ c. search needs)
-    (λ c κs. search needs)
-    returns-3
-    (λ c κs. search needs)
-    returns-4)
+    (tie.spec (λ c κs. search needs) (λ c. search needs) (λ c. search needs) (λ c κs. search needs) returns
+    programs-of-requires (λ c. search needs) (λ c. search needs) (λ c κs. search needs) returns-2 ending-of-requires
+    (λ c. search needs) (λ c. search needs) (λ c κs. search needs) returns-3 (λ c κs. search needs) returns-4)

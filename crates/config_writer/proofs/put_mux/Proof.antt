@@ -12,17 +12,12 @@ returns c =
     let tail = c .before .before in
     let programs = tail .before .before .before .before in
     let head = programs .before .before .before .before in (
-      omega (arith, head .put-head .ensures .0, programs .put-programs .ensures .0, tail .put-mux-tail .ensures .0),
+      omega (arith, head .put-head .ensures .0, programs .put-programs .ensures .0, tail .put-mux-ending .ensures .0),
       put-then (head .put-head .ensures .1)
-          (put-then (programs .put-programs .ensures .1) (tail .put-mux-tail .ensures .1)),
+          (put-then (programs .put-programs .ensures .1) (tail .put-mux-ending .ensures .1)),
     )
 
 pub put-mux-spec : {M : Type 1} → statement M
 put-mux-spec =
     tie.close
-    (tie.spec
-    (λ c κs. search needs)
-    (λ c κs. search needs)
-    (λ c κs. search needs)
-    (λ c. search needs)
-    returns)
+    (tie.spec (λ c κs. search needs) (λ c κs. search needs) (λ c κs. search needs) (λ c. search needs) returns)

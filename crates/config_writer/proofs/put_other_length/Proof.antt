@@ -34,11 +34,5 @@ returns-3 c = (omega arith, rw (ne-eqb (c .before .before .args .other) 1 (c .if
 pub put-other-length-spec : {M : Type 1} → statement M
 put-other-length-spec =
     tie.close
-    (tie.spec
-    (λ c κs. search needs)
-    (λ c. search needs)
-    returns
-    (λ c κs. search needs)
-    (λ c. search needs)
-    returns-2
-    returns-3)
+    (tie.spec (λ c κs. search needs) (λ c. search needs) returns (λ c κs. search needs) (λ c. search needs)
+    returns-2 returns-3)

@@ -77,22 +77,6 @@ same-length c = put-length (returns c .1)
 pub put-programs-spec : {M : Type 1} → statement M
 put-programs-spec =
     tie.close
-    (tie.spec
-    Inv-loop
-    μ-loop
-    (λ c. search needs)
-    loop-holds
-    (λ c. search needs)
-    (λ c. search needs)
-    (λ c κs. search needs)
-    add-put-layers
-    put-layers-requires
-    (λ c. search needs)
-    add-next
-    add-next-2
-    (λ c. search needs)
-    (λ c. search needs)
-    (λ c. search needs)
-    loop-again
-    same-length
-    returns)
+    (tie.spec Inv-loop μ-loop (λ c. search needs) loop-holds (λ c. search needs) (λ c. search needs)
+    (λ c κs. search needs) add-put-layers put-layers-requires (λ c. search needs) add-next add-next-2
+    (λ c. search needs) (λ c. search needs) (λ c. search needs) loop-again same-length returns)

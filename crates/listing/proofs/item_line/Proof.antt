@@ -9,10 +9,5 @@ returns c = rw (c .line-of .ensures, c .before .before .before .before .letter-o
 pub item-line-spec : {M : Type 1} → statement M
 item-line-spec =
     tie.close
-    (tie.spec
-    (λ c κs. search needs)
-    (λ c. search needs)
-    (λ c. search needs)
-    (λ c. search needs)
-    (λ c κs. search needs)
-    returns)
+    (tie.spec (λ c κs. search needs) (λ c. search needs) (λ c. search needs) (λ c. search needs)
+    (λ c κs. search needs) returns)

@@ -91,21 +91,6 @@ returns-2 c =
 pub lay-frames-spec : {M : Type 1} → statement M
 lay-frames-spec =
     tie.close
-    (tie.spec
-    Inv-loop
-    μ-loop
-    (λ c κs. search needs)
-    loop-holds
-    (λ c. search needs)
-    (λ c κs. search needs)
-    (λ c. search needs)
-    (λ c. search needs)
-    (λ c. search needs)
-    (λ c. search needs)
-    returns
-    lay-verdict-requires
-    loop-less
-    loop-again
-    (λ c. search needs)
-    (λ c. search needs)
-    returns-2)
+    (tie.spec Inv-loop μ-loop (λ c κs. search needs) loop-holds (λ c. search needs) (λ c κs. search needs)
+    (λ c. search needs) (λ c. search needs) (λ c. search needs) (λ c. search needs) returns lay-verdict-requires
+    loop-less loop-again (λ c. search needs) (λ c. search needs) returns-2)

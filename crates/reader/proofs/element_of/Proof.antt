@@ -117,19 +117,6 @@ returns-4 c =
 pub element-of-spec : {M : Type 1} → statement M
 element-of-spec =
     tie.close
-    (tie.spec
-    (λ c κs. search needs)
-    (λ c. search needs)
-    (λ c. search needs)
-    (λ c κs. search needs)
-    returns
-    with-sent-requires
-    (λ c. search needs)
-    returns-2
-    (λ c κs. search needs)
-    plan-of-requires
-    finish-requires
-    (λ c. search needs)
-    returns-3
-    (λ c κs. search needs)
-    returns-4)
+    (tie.spec (λ c κs. search needs) (λ c. search needs) (λ c. search needs) (λ c κs. search needs) returns
+    with-sent-requires (λ c. search needs) returns-2 (λ c κs. search needs) plan-of-requires finish-requires
+    (λ c. search needs) returns-3 (λ c κs. search needs) returns-4)

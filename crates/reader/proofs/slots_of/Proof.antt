@@ -63,16 +63,5 @@ returns c =
 pub slots-of-spec : {M : Type 1} → statement M
 slots-of-spec =
     tie.close
-    (tie.spec
-    Inv-loop
-    μ-loop
-    loop-holds
-    mul-s
-    array-copy-out-s
-    fixed-bits-requires
-    (λ c. search needs)
-    array-write-slots
-    add-i
-    loop-less
-    loop-again
-    returns)
+    (tie.spec Inv-loop μ-loop loop-holds mul-s array-copy-out-s fixed-bits-requires (λ c. search needs)
+    array-write-slots add-i loop-less loop-again returns)

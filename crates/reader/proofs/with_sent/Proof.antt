@@ -92,16 +92,6 @@ returns-3 c =
 pub with-sent-spec : {M : Type 1} → statement M
 with-sent-spec =
     tie.close
-    (tie.spec
-    (λ c κs. search needs)
-    (λ c. search needs)
-    (λ c. search needs)
-    returns
-    plan-of-requires
-    finish-requires
-    (λ c. search needs)
-    (λ c. search needs)
-    (λ c. search needs)
-    returns-2
-    (λ c. search needs)
+    (tie.spec (λ c κs. search needs) (λ c. search needs) (λ c. search needs) returns plan-of-requires
+    finish-requires (λ c. search needs) (λ c. search needs) (λ c. search needs) returns-2 (λ c. search needs)
     returns-3)

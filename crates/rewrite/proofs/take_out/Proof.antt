@@ -20,23 +20,7 @@ returns c = search needs
 pub take-out-spec : {M : Type 1} → statement M
 take-out-spec =
     tie.close
-    (tie.spec
-    (λ c κs. search needs)
-    (λ c κs. search needs)
-    (λ c κs. search needs)
-    (λ c κs. search needs)
-    (λ c κs. search needs)
-    (λ c κs. search needs)
-    (λ c. search needs)
-    slice-aggregate-write-anew
-    (λ c. search needs)
-    slice-aggregate-write-anew-2
-    (λ c. search needs)
-    slice-aggregate-write-anew-3
-    (λ c κs. search needs)
-    (λ c. search needs)
-    (λ c. search needs)
-    (λ c. search needs)
-    (λ c. search needs)
-    (λ c. search needs)
-    returns)
+    (tie.spec (λ c κs. search needs) (λ c κs. search needs) (λ c κs. search needs) (λ c κs. search needs)
+    (λ c κs. search needs) (λ c κs. search needs) (λ c. search needs) slice-aggregate-write-anew (λ c. search needs)
+    slice-aggregate-write-anew-2 (λ c. search needs) slice-aggregate-write-anew-3 (λ c κs. search needs)
+    (λ c. search needs) (λ c. search needs) (λ c. search needs) (λ c. search needs) (λ c. search needs) returns)

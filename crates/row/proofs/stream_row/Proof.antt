@@ -19,7 +19,7 @@ returns c =
       ep,
       s .sbr-of .ensures,
       p .ps-of .ensures,
-      c .channels-of .ensures,
+      c .output-channels .ensures,
       o .output-of .ensures,
       h .hz-of .ensures,
     )
@@ -27,10 +27,5 @@ returns c =
 pub stream-row-spec : {M : Type 1} → statement M
 stream-row-spec =
     tie.close
-    (tie.spec
-    (λ c κs. search needs)
-    (λ c κs. search needs)
-    (λ c κs. search needs)
-    (λ c κs. search needs)
-    (λ c κs. search needs)
-    returns)
+    (tie.spec (λ c κs. search needs) (λ c κs. search needs) (λ c κs. search needs) (λ c κs. search needs)
+    (λ c κs. search needs) returns)

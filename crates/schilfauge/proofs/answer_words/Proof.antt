@@ -12,11 +12,6 @@ returns-2 c = rw (c .before .v2 .given .1)
 
 pub answer-words-spec : {M : Type 1} → statement M
 answer-words-spec =
-    tie.close (tie.spec
-    (λ c. search needs)
-    (λ c. search needs)
-    (λ c. search needs)
-    (λ c. search needs)
-    (λ c. search needs)
-    returns
-    returns-2)
+    tie.close
+    (tie.spec (λ c. search needs) (λ c. search needs) (λ c. search needs) (λ c. search needs) (λ c. search needs)
+    returns returns-2)

@@ -37,17 +37,6 @@ returns-2 c = rw (c .enum-told .given .1)
 pub row-words-spec : {M : Type 1} → statement M
 row-words-spec =
     tie.close
-    (tie.spec
-    (λ c. search needs)
-    (λ c. search needs)
-    (λ c. search needs)
-    (λ c. search needs)
-    (λ c. search needs)
-    (λ c. search needs)
-    (λ c. search needs)
-    cast-t11
-    cast-t12
-    (λ c. search needs)
-    (λ c. search needs)
-    returns
+    (tie.spec (λ c. search needs) (λ c. search needs) (λ c. search needs) (λ c. search needs) (λ c. search needs)
+    (λ c. search needs) (λ c. search needs) cast-t11 cast-t12 (λ c. search needs) (λ c. search needs) returns
     returns-2)

@@ -19,9 +19,5 @@ returns-2 c =
 
 pub schilf-hunt-spec : {M : Type 1} → statement M
 schilf-hunt-spec =
-    tie.close (tie.spec
-    (λ c κs. search needs)
-    (λ c. search needs)
-    (λ c. search needs)
-    returns
-    returns-2)
+    tie.close
+    (tie.spec (λ c κs. search needs) (λ c. search needs) (λ c. search needs) returns returns-2)

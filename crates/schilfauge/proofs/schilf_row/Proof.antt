@@ -21,9 +21,5 @@ returns-2 c =
 
 pub schilf-row-spec : {M : Type 1} → statement M
 schilf-row-spec =
-    tie.close (tie.spec
-    (λ c κs. search needs)
-    (λ c κs. search needs)
-    returns
-    (λ c κs. search needs)
-    returns-2)
+    tie.close
+    (tie.spec (λ c κs. search needs) (λ c κs. search needs) returns (λ c κs. search needs) returns-2)

@@ -20,15 +20,5 @@ returns-3 c = search needs
 pub hunt-spec : {M : Type 1} → statement M
 hunt-spec =
     tie.close
-    (tie.spec
-    (λ c κs. search needs)
-    (λ c κs. search needs)
-    (λ c. search needs)
-    returns
-    (λ c. search needs)
-    returns-2
-    (λ c. search needs)
-    slice-aggregate-say-hunted
-    (λ c κs. search needs)
-    (λ c. search needs)
-    returns-3)
+    (tie.spec (λ c κs. search needs) (λ c κs. search needs) (λ c. search needs) returns (λ c. search needs)
+    returns-2 (λ c. search needs) slice-aggregate-say-hunted (λ c κs. search needs) (λ c. search needs) returns-3)

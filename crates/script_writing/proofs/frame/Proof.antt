@@ -23,18 +23,6 @@ returns-3 c = search needs
 pub frame-spec : {M : Type 1} → statement M
 frame-spec =
     tie.close
-    (tie.spec
-    (λ c κs. search needs)
-    (λ c κs. search needs)
-    (λ c. search needs)
-    returns
-    (λ c. search needs)
-    returns-2
-    (λ c. search needs)
-    slice-aggregate-frame-into
-    (λ c. search needs)
-    slice-aggregate-frame-into-2
-    (λ c κs. search needs)
-    (λ c. search needs)
-    (λ c. search needs)
-    returns-3)
+    (tie.spec (λ c κs. search needs) (λ c κs. search needs) (λ c. search needs) returns (λ c. search needs)
+    returns-2 (λ c. search needs) slice-aggregate-frame-into (λ c. search needs) slice-aggregate-frame-into-2
+    (λ c κs. search needs) (λ c. search needs) (λ c. search needs) returns-3)

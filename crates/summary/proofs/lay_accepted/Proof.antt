@@ -32,10 +32,5 @@ returns-3 c =
 
 pub lay-accepted-spec : {M : Type 1} → statement M
 lay-accepted-spec =
-    tie.close (tie.spec
-    returns
-    (λ c κs. search needs)
-    (λ c κs. search needs)
-    (λ c. search needs)
-    returns-2
-    returns-3)
+    tie.close
+    (tie.spec returns (λ c κs. search needs) (λ c κs. search needs) (λ c. search needs) returns-2 returns-3)

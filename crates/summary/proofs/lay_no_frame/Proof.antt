@@ -22,9 +22,5 @@ returns-2 c =
 
 pub lay-no-frame-spec : {M : Type 1} → statement M
 lay-no-frame-spec =
-    tie.close (tie.spec
-    (λ c. search needs)
-    (λ c κs. search needs)
-    (λ c. search needs)
-    returns
-    returns-2)
+    tie.close
+    (tie.spec (λ c. search needs) (λ c κs. search needs) (λ c. search needs) returns returns-2)

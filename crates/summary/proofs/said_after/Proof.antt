@@ -11,9 +11,5 @@ returns-2 c = rw (c .before .before .v .given .1, c .first-wanting .ensures)
 
 pub said-after-spec : {M : Type 1} → statement M
 said-after-spec =
-    tie.close (tie.spec
-    (λ c. search needs)
-    (λ c. search needs)
-    (λ c κs. search needs)
-    returns
-    returns-2)
+    tie.close
+    (tie.spec (λ c. search needs) (λ c. search needs) (λ c κs. search needs) returns returns-2)

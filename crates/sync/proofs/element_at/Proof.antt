@@ -36,15 +36,5 @@ returns-2 c =
 pub element-at-spec : {M : Type 1} → statement M
 element-at-spec =
     tie.close
-    (tie.spec
-    (λ c κs. search needs)
-    add-from
-    add-to
-    (λ c. search needs)
-    (λ c. search needs)
-    part-result-end
-    returns
-    (λ c. search needs)
-    (λ c. search needs)
-    (λ c. search needs)
-    returns-2)
+    (tie.spec (λ c κs. search needs) add-from add-to (λ c. search needs) (λ c. search needs) part-result-end returns
+    (λ c. search needs) (λ c. search needs) (λ c. search needs) returns-2)

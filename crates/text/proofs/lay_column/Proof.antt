@@ -13,9 +13,5 @@ returns c =
 
 pub lay-column-spec : {M : Type 1} → statement M
 lay-column-spec =
-    tie.close (tie.spec
-    (λ c. search needs)
-    (λ c κs. search needs)
-    (λ c κs. search needs)
-    (λ c. search needs)
-    returns)
+    tie.close
+    (tie.spec (λ c. search needs) (λ c κs. search needs) (λ c κs. search needs) (λ c. search needs) returns)

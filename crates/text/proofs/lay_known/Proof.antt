@@ -41,11 +41,5 @@ returns c =
 pub lay-known-spec : {M : Type 1} → statement M
 lay-known-spec =
     tie.close
-    (tie.spec
-    (λ c κs. search needs)
-    (λ c κs. search needs)
-    array-share-prefix-line
-    slice-aggregate-lay
-    lay-requires
-    (λ c. search needs)
-    returns)
+    (tie.spec (λ c κs. search needs) (λ c κs. search needs) array-share-prefix-line slice-aggregate-lay lay-requires
+    (λ c. search needs) returns)

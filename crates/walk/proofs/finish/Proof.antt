@@ -99,20 +99,6 @@ returns-3 c =
 pub finish-spec : {M : Type 1} → statement M
 finish-spec =
     tie.close
-    (tie.spec
-    (λ c κs. search needs)
-    rest-of-requires
-    (λ c. search needs)
-    (λ c. search needs)
-    (λ c. search needs)
-    (λ c κs. search needs)
-    (λ c. search needs)
-    returns
-    cast-push-front
-    push-front-requires
-    rest-of-requires-2
-    cast-t22
-    (λ c. search needs)
-    returns-2
-    (λ c. search needs)
-    returns-3)
+    (tie.spec (λ c κs. search needs) rest-of-requires (λ c. search needs) (λ c. search needs) (λ c. search needs)
+    (λ c κs. search needs) (λ c. search needs) returns cast-push-front push-front-requires rest-of-requires-2
+    cast-t22 (λ c. search needs) returns-2 (λ c. search needs) returns-3)

@@ -85,20 +85,5 @@ returns-2 c =
 pub payloads-of-spec : {M : Type 1} → statement M
 payloads-of-spec =
     tie.close
-    (tie.spec
-    Inv-loop
-    μ-loop
-    loop-holds
-    mul-w
-    array-read-w
-    cast-pass-item
-    pass-item-requires
-    (λ c. search needs)
-    (λ c. search needs)
-    (λ c. search needs)
-    returns
-    add-i
-    loop-less
-    loop-again
-    (λ c. search needs)
-    returns-2)
+    (tie.spec Inv-loop μ-loop loop-holds mul-w array-read-w cast-pass-item pass-item-requires (λ c. search needs)
+    (λ c. search needs) (λ c. search needs) returns add-i loop-less loop-again (λ c. search needs) returns-2)

@@ -27,19 +27,6 @@ returns-2 c = search needs
 pub push-if-spec : {M : Type 1} → statement M
 push-if-spec =
     tie.close
-    (tie.spec
-    (λ c. search needs)
-    (λ c. search needs)
-    (λ c. search needs)
-    (λ c. search needs)
-    (λ c. search needs)
-    slice-write-map-2
-    (λ c. search needs)
-    (λ c. search needs)
-    slice-write-map-3
-    (λ c. search needs)
-    (λ c. search needs)
-    slice-write-map-4
-    (λ c. search needs)
-    returns
-    returns-2)
+    (tie.spec (λ c. search needs) (λ c. search needs) (λ c. search needs) (λ c. search needs) (λ c. search needs)
+    slice-write-map-2 (λ c. search needs) (λ c. search needs) slice-write-map-3 (λ c. search needs)
+    (λ c. search needs) slice-write-map-4 (λ c. search needs) returns returns-2)

@@ -76,17 +76,6 @@ returns-3 c =
 pub rest-of-spec : {M : Type 1} → statement M
 rest-of-spec =
     tie.close
-    (tie.spec
-    (λ c κs. search needs)
-    (λ c. search needs)
-    (λ c. search needs)
-    (λ c. search needs)
-    returns
-    other-of-requires
-    (λ c. search needs)
-    (λ c. search needs)
-    (λ c. search needs)
-    returns-2
-    alignment-of-requires
-    (λ c. search needs)
-    returns-3)
+    (tie.spec (λ c κs. search needs) (λ c. search needs) (λ c. search needs) (λ c. search needs) returns
+    other-of-requires (λ c. search needs) (λ c. search needs) (λ c. search needs) returns-2 alignment-of-requires
+    (λ c. search needs) returns-3)

@@ -63,16 +63,5 @@ returns-2 c =
 pub subframe-of-spec : {M : Type 1} → statement M
 subframe-of-spec =
     tie.close
-    (tie.spec
-    (λ c κs. search needs)
-    (λ c. search needs)
-    (λ c. search needs)
-    returns
-    sub-width
-    (λ c. search needs)
-    cast-push-if-2
-    (λ c κs. search needs)
-    (λ c. search needs)
-    payloads-of-requires
-    (λ c. search needs)
-    returns-2)
+    (tie.spec (λ c κs. search needs) (λ c. search needs) (λ c. search needs) returns sub-width (λ c. search needs)
+    cast-push-if-2 (λ c κs. search needs) (λ c. search needs) payloads-of-requires (λ c. search needs) returns-2)

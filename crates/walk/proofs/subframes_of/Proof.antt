@@ -77,17 +77,5 @@ returns-2 c =
 pub subframes-of-spec : {M : Type 1} → statement M
 subframes-of-spec =
     tie.close
-    (tie.spec
-    Inv-loop
-    μ-loop
-    loop-holds
-    subframe-of-requires
-    (λ c. search needs)
-    (λ c. search needs)
-    (λ c. search needs)
-    returns
-    sub-left
-    loop-less
-    loop-again
-    (λ c. search needs)
-    returns-2)
+    (tie.spec Inv-loop μ-loop loop-holds subframe-of-requires (λ c. search needs) (λ c. search needs)
+    (λ c. search needs) returns sub-left loop-less loop-again (λ c. search needs) returns-2)

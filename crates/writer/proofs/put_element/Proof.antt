@@ -78,13 +78,5 @@ returns c =
 pub put-element-spec : {M : Type 1} → statement M
 put-element-spec =
     tie.close
-    (tie.spec
-    (λ c κs. search needs)
-    put-front-requires
-    (λ c. search needs)
-    (λ c. search needs)
-    put-subframes-requires
-    put-other-requires
-    (λ c κs. search needs)
-    (λ c. search needs)
-    returns)
+    (tie.spec (λ c κs. search needs) put-front-requires (λ c. search needs) (λ c. search needs)
+    put-subframes-requires put-other-requires (λ c κs. search needs) (λ c. search needs) returns)

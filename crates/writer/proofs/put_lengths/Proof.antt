@@ -74,18 +74,6 @@ returns c = (omega (arith, c .before .loop .inv, c .before .before .before .befo
 pub put-lengths-spec : {M : Type 1} → statement M
 put-lengths-spec =
     tie.close
-    (tie.spec
-    Inv-loop
-    μ-loop
-    loop-holds
-    (λ c. search needs)
-    (λ c. search needs)
-    (λ c. search needs)
-    (λ c. search needs)
-    (λ c. search needs)
-    put-slot-requires
-    (λ c. search needs)
-    (λ c. search needs)
-    loop-again
-    same-length
-    returns)
+    (tie.spec Inv-loop μ-loop loop-holds (λ c. search needs) (λ c. search needs) (λ c. search needs)
+    (λ c. search needs) (λ c. search needs) put-slot-requires (λ c. search needs) (λ c. search needs) loop-again
+    same-length returns)

@@ -169,20 +169,6 @@ returns c = (
 pub put-subframes-spec : {M : Type 1} → statement M
 put-subframes-spec =
     tie.close
-    (tie.spec
-    Inv-loop
-    μ-loop
-    loop-holds
-    measure-row-requires
-    add-end
-    put-lengths-requires
-    sub-put-bytes
-    (λ c. search needs)
-    part-put-bytes-end
-    put-bytes-requires
-    (λ c. search needs)
-    (λ c. search needs)
-    (λ c. search needs)
-    loop-again
-    same-length
-    returns)
+    (tie.spec Inv-loop μ-loop loop-holds measure-row-requires add-end put-lengths-requires sub-put-bytes
+    (λ c. search needs) part-put-bytes-end put-bytes-requires (λ c. search needs) (λ c. search needs)
+    (λ c. search needs) loop-again same-length returns)

@@ -26,10 +26,5 @@ returns-2 c =
 pub write-spec : {M : Type 1} → statement M
 write-spec =
     tie.close
-    (tie.spec
-    (λ c κs. search needs)
-    write-valid-requires
-    (λ c. search needs)
-    returns
-    (λ c κs. search needs)
+    (tie.spec (λ c κs. search needs) write-valid-requires (λ c. search needs) returns (λ c κs. search needs)
     returns-2)

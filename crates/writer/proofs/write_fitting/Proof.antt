@@ -75,15 +75,5 @@ returns-3 c =
 pub write-fitting-spec : {M : Type 1} → statement M
 write-fitting-spec =
     tie.close
-    (tie.spec
-    size-of-requires
-    (λ c κs. search needs)
-    (λ c. search needs)
-    returns
-    (λ c κs. search needs)
-    (λ c. search needs)
-    returns-2
-    put-element-requires
-    (λ c. search needs)
-    (λ c. search needs)
-    returns-3)
+    (tie.spec size-of-requires (λ c κs. search needs) (λ c. search needs) returns (λ c κs. search needs)
+    (λ c. search needs) returns-2 put-element-requires (λ c. search needs) (λ c. search needs) returns-3)

@@ -100,18 +100,6 @@ returns-3 c =
 pub write-valid-spec : {M : Type 1} → statement M
 write-valid-spec =
     tie.close
-    (tie.spec
-    (λ c κs. search needs)
-    (λ c. search needs)
-    (λ c. search needs)
-    mul-if1
-    (λ c κs. search needs)
-    returns
-    measure-all-requires
-    (λ c κs. search needs)
-    (λ c. search needs)
-    write-fitting-requires
-    (λ c. search needs)
-    returns-2
-    (λ c κs. search needs)
-    returns-3)
+    (tie.spec (λ c κs. search needs) (λ c. search needs) (λ c. search needs) mul-if1 (λ c κs. search needs) returns
+    measure-all-requires (λ c κs. search needs) (λ c. search needs) write-fitting-requires (λ c. search needs)
+    returns-2 (λ c κs. search needs) returns-3)

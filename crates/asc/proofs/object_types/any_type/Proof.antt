@@ -58,15 +58,5 @@ returns-4 c =
 pub any-type-spec : {M : Type 1} → statement M
 any-type-spec =
     tie.close
-    (tie.spec
-    (λ c κs. search needs)
-    (λ c. search needs)
-    (λ c. search needs)
-    returns
-    take-at-requires-2
-    (λ c. search needs)
-    (λ c. search needs)
-    returns-2
-    add-t11
-    returns-3
-    returns-4)
+    (tie.spec (λ c κs. search needs) (λ c. search needs) (λ c. search needs) returns take-at-requires-2
+    (λ c. search needs) (λ c. search needs) returns-2 add-t11 returns-3 returns-4)

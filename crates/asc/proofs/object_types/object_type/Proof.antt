@@ -50,14 +50,5 @@ returns-4 d =
 pub object-type-spec : {M : Type 1} → statement M
 object-type-spec =
     tie.close
-    (tie.spec
-    (λ c κs. search needs)
-    (λ c. search needs)
-    (λ c. search needs)
-    returns
-    escaped-requires
-    returns-2
-    (λ c κs. search needs)
-    returns-3
-    (λ c κs. search needs)
-    returns-4)
+    (tie.spec (λ c κs. search needs) (λ c. search needs) (λ c. search needs) returns escaped-requires returns-2
+    (λ c κs. search needs) returns-3 (λ c κs. search needs) returns-4)

@@ -56,14 +56,5 @@ returns-4 d =
 pub frequency-of-spec : {M : Type 1} → statement M
 frequency-of-spec =
     tie.close
-    (tie.spec
-    (λ c κs. search needs)
-    (λ c. search needs)
-    (λ c. search needs)
-    (λ c κs. search needs)
-    returns
-    hertz-of-requires
-    (λ c κs. search needs)
-    returns-2
-    returns-3
-    returns-4)
+    (tie.spec (λ c κs. search needs) (λ c. search needs) (λ c. search needs) (λ c κs. search needs) returns
+    hertz-of-requires (λ c κs. search needs) returns-2 returns-3 returns-4)

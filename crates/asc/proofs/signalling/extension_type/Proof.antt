@@ -57,14 +57,5 @@ returns-4 c =
 pub extension-type-spec : {M : Type 1} → statement M
 extension-type-spec =
     tie.close
-    (tie.spec
-    (λ c κs. search needs)
-    (λ c. search needs)
-    (λ c. search needs)
-    (λ c κs. search needs)
-    returns
-    sbr-extension-requires
-    (λ c κs. search needs)
-    returns-2
-    returns-3
-    returns-4)
+    (tie.spec (λ c κs. search needs) (λ c. search needs) (λ c. search needs) (λ c κs. search needs) returns
+    sbr-extension-requires (λ c κs. search needs) returns-2 returns-3 returns-4)

@@ -62,16 +62,5 @@ returns-4 c = ends (unless (flagged (c .before .before)) _ _ refl (ne-eqb _ 1 (c
 pub sbr-extension-spec : {M : Type 1} → statement M
 sbr-extension-spec =
     tie.close
-    (tie.spec
-    (λ c κs. search needs)
-    (λ c. search needs)
-    (λ c. search needs)
-    (λ c κs. search needs)
-    returns
-    frequency-of-requires
-    (λ c. search needs)
-    (λ c. search needs)
-    returns-2
-    ps-tail-requires
-    returns-3
-    returns-4)
+    (tie.spec (λ c κs. search needs) (λ c. search needs) (λ c. search needs) (λ c κs. search needs) returns
+    frequency-of-requires (λ c. search needs) (λ c. search needs) returns-2 ps-tail-requires returns-3 returns-4)

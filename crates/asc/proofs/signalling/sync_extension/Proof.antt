@@ -38,12 +38,5 @@ returns-3 c =
 pub sync-extension-spec : {M : Type 1} → statement M
 sync-extension-spec =
     tie.close
-    (tie.spec
-    (λ c κs. search needs)
-    (λ c. search needs)
-    (λ c. search needs)
-    (λ c κs. search needs)
-    returns
-    extension-type-requires
-    returns-2
-    returns-3)
+    (tie.spec (λ c κs. search needs) (λ c. search needs) (λ c. search needs) (λ c κs. search needs) returns
+    extension-type-requires returns-2 returns-3)

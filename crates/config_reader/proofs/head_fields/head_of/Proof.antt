@@ -179,37 +179,9 @@ returns-8 c =
 pub head-of-spec : {M : Type 1} → statement M
 head-of-spec =
     tie.close
-    (tie.spec
-    (λ c κs. search needs)
-    (λ c. search needs)
-    (λ c. search needs)
-    (λ c κs. search needs)
-    returns
-    subversion-if-requires
-    (λ c. search needs)
-    (λ c. search needs)
-    (λ c κs. search needs)
-    returns-2
-    tara-if-requires
-    (λ c. search needs)
-    (λ c. search needs)
-    (λ c κs. search needs)
-    returns-3
-    fetch-requires-2
-    (λ c. search needs)
-    (λ c. search needs)
-    (λ c κs. search needs)
-    returns-4
-    (λ c κs. search needs)
-    returns-5
-    fetch-requires-3
-    (λ c. search needs)
-    (λ c. search needs)
-    (λ c κs. search needs)
-    returns-6
-    fetch-requires-4
-    (λ c. search needs)
-    (λ c. search needs)
-    (λ c κs. search needs)
-    returns-7
-    returns-8)
+    (tie.spec (λ c κs. search needs) (λ c. search needs) (λ c. search needs) (λ c κs. search needs) returns
+    subversion-if-requires (λ c. search needs) (λ c. search needs) (λ c κs. search needs) returns-2 tara-if-requires
+    (λ c. search needs) (λ c. search needs) (λ c κs. search needs) returns-3 fetch-requires-2 (λ c. search needs)
+    (λ c. search needs) (λ c κs. search needs) returns-4 (λ c κs. search needs) returns-5 fetch-requires-3
+    (λ c. search needs) (λ c. search needs) (λ c κs. search needs) returns-6 fetch-requires-4 (λ c. search needs)
+    (λ c. search needs) (λ c κs. search needs) returns-7 returns-8)

@@ -17,10 +17,5 @@ returns-2 c = search needs
 
 pub before-of-spec : {M : Type 1} → statement M
 before-of-spec =
-    tie.close (tie.spec
-    (λ c. search needs)
-    returns
-    sub-i
-    (λ c. search needs)
-    (λ c. search needs)
-    returns-2)
+    tie.close
+    (tie.spec (λ c. search needs) returns sub-i (λ c. search needs) (λ c. search needs) returns-2)

@@ -8,7 +8,7 @@ use Rattle.kernel.specs.Answer.{told}
 use Rattle.kernel.specs.Reading.{run, Stands}
 use Rattle.kernel.proofs.Chain.{Comes, got, itself, same-end, steady}
 use Rattle.config.specs.Mux.{layer, layers, configAt}
-use Rattle.config_reader.specs.Answer.{toldStreamed}
+use Rattle.layer_reader.specs.Answer.{toldStreamed}
 use Rattle.config_reader.proofs.Turns.{layers-done, layers-stop, layers-turn}
 use Rattle.config_reader.proofs.layers.layers_of.Statement.{statement}
 use Rattle.config_reader.proofs.layers.layers_of.Tie as tie
@@ -76,19 +76,6 @@ returns-2 c =
 pub layers-of-spec : {M : Type 1} → statement M
 layers-of-spec =
     tie.close
-    (tie.spec
-    Inv-loop
-    μ-loop
-    loop-holds
-    before-of-requires
-    layer-of-requires
-    (λ c. search needs)
-    (λ c. search needs)
-    returns
-    (λ c. search needs)
-    array-set-from-kept
-    add-i
-    sub-left
-    loop-less
-    loop-again
+    (tie.spec Inv-loop μ-loop loop-holds before-of-requires layer-of-requires (λ c. search needs)
+    (λ c. search needs) returns (λ c. search needs) array-set-from-kept add-i sub-left loop-less loop-again
     returns-2)

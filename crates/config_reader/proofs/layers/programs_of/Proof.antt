@@ -170,38 +170,8 @@ returns-4 c =
 pub programs-of-spec : {M : Type 1} → statement M
 programs-of-spec =
     tie.close
-    (tie.spec
-    Inv-loop
-    μ-loop
-    (λ c κs. search needs)
-    add-left
-    loop-holds
-    fetch-requires
-    (λ c. search needs)
-    (λ c. search needs)
-    (λ c κs. search needs)
-    (λ c κs. search needs)
-    returns
-    (λ c. search needs)
-    add-count
-    add-if1
-    (λ c κs. search needs)
-    (λ c κs. search needs)
-    returns-2
-    add-layers-of
-    layers-of-requires
-    (λ c. search needs)
-    (λ c. search needs)
-    (λ c κs. search needs)
-    returns-3
-    (λ c. search needs)
-    array-write-layers
-    row-from-requires
-    (λ c. search needs)
-    array-set-from-cells
-    add-p
-    add-next
-    sub-left
-    loop-less
-    loop-again
-    returns-4)
+    (tie.spec Inv-loop μ-loop (λ c κs. search needs) add-left loop-holds fetch-requires (λ c. search needs)
+    (λ c. search needs) (λ c κs. search needs) (λ c κs. search needs) returns (λ c. search needs) add-count add-if1
+    (λ c κs. search needs) (λ c κs. search needs) returns-2 add-layers-of layers-of-requires (λ c. search needs)
+    (λ c. search needs) (λ c κs. search needs) returns-3 (λ c. search needs) array-write-layers row-from-requires
+    (λ c. search needs) array-set-from-cells add-p add-next sub-left loop-less loop-again returns-4)

@@ -87,17 +87,5 @@ returns-2 c =
 pub bytes-from-spec : {M : Type 1} → statement M
 bytes-from-spec =
     tie.close
-    (tie.spec
-    Inv-loop
-    μ-loop
-    loop-holds
-    fetch-requires
-    (λ c. search needs)
-    (λ c. search needs)
-    returns
-    mul-v
-    add-v
-    sub-left
-    loop-less
-    loop-again
-    returns-2)
+    (tie.spec Inv-loop μ-loop loop-holds fetch-requires (λ c. search needs) (λ c. search needs) returns mul-v add-v
+    sub-left loop-less loop-again returns-2)

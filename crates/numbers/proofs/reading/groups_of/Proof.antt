@@ -132,24 +132,6 @@ returns-5 c =
 pub groups-of-spec : {M : Type 1} → statement M
 groups-of-spec =
     tie.close
-    (tie.spec
-    Inv-loop
-    μ-loop
-    loop-holds
-    fetch-requires
-    (λ c. search needs)
-    (λ c. search needs)
-    returns
-    (λ c κs. search needs)
-    returns-2
-    fetch-requires-2
-    (λ c. search needs)
-    (λ c. search needs)
-    returns-3
-    mul-v
-    add-v
-    returns-4
-    sub-left
-    loop-less
-    loop-again
-    returns-5)
+    (tie.spec Inv-loop μ-loop loop-holds fetch-requires (λ c. search needs) (λ c. search needs) returns
+    (λ c κs. search needs) returns-2 fetch-requires-2 (λ c. search needs) (λ c. search needs) returns-3 mul-v add-v
+    returns-4 sub-left loop-less loop-again returns-5)

@@ -35,11 +35,5 @@ returns-2 c =
 pub latm-get-value-spec : {M : Type 1} → statement M
 latm-get-value-spec =
     tie.close
-    (tie.spec
-    (λ c κs. search needs)
-    (λ c. search needs)
-    (λ c. search needs)
-    returns
-    add-bytes-from
-    bytes-from-requires
-    returns-2)
+    (tie.spec (λ c κs. search needs) (λ c. search needs) (λ c. search needs) returns add-bytes-from
+    bytes-from-requires returns-2)

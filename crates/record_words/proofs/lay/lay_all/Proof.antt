@@ -16,20 +16,15 @@ returns c =
         h .lay-head .ensures .0,
         l .lay-layers .ensures .0,
         s .lay-streams .ensures .0,
-        t .lay-tail .ensures .0,
+        t .lay-ending .ensures .0,
       ),
       stored-then (h .lay-head .ensures .1)
           (stored-then (l .lay-layers .ensures .1)
-          (stored-then (s .lay-streams .ensures .1) (t .lay-tail .ensures .1))),
+          (stored-then (s .lay-streams .ensures .1) (t .lay-ending .ensures .1))),
     )
 
 pub lay-all-spec : {M : Type 1} → statement M
 lay-all-spec =
     tie.close
-    (tie.spec
-    (λ c κs. search needs)
-    (λ c κs. search needs)
-    (λ c κs. search needs)
-    (λ c κs. search needs)
-    (λ c. search needs)
-    returns)
+    (tie.spec (λ c κs. search needs) (λ c κs. search needs) (λ c κs. search needs) (λ c κs. search needs)
+    (λ c. search needs) returns)

@@ -8,9 +8,5 @@ returns c = rw (c .before .before .before .before .before .stream-words .ensures
 
 pub lay-stream-spec : {M : Type 1} → statement M
 lay-stream-spec =
-    tie.close (tie.spec
-    (λ c κs. search needs)
-    (λ c. search needs)
-    (λ c κs. search needs)
-    (λ c. search needs)
-    returns)
+    tie.close
+    (tie.spec (λ c κs. search needs) (λ c. search needs) (λ c κs. search needs) (λ c. search needs) returns)

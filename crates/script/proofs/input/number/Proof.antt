@@ -27,13 +27,5 @@ returns-3 c = search needs
 pub number-spec : {M : Type 1} → statement M
 number-spec =
     tie.close
-    (tie.spec
-    returns
-    (λ c. search needs)
-    slice-aggregate-read-full
-    (λ c κs. search needs)
-    returns-2
-    array-share-prefix-small
-    slice-aggregate-value-of
-    (λ c κs. search needs)
-    returns-3)
+    (tie.spec returns (λ c. search needs) slice-aggregate-read-full (λ c κs. search needs) returns-2
+    array-share-prefix-small slice-aggregate-value-of (λ c κs. search needs) returns-3)

@@ -20,13 +20,5 @@ returns-3 c = search needs
 pub take-spec : {M : Type 1} → statement M
 take-spec =
     tie.close
-    (tie.spec
-    (λ c κs. search needs)
-    returns
-    (λ c. search needs)
-    slice-aggregate-read-full
-    (λ c κs. search needs)
-    (λ c. search needs)
-    returns-2
-    (λ c. search needs)
-    returns-3)
+    (tie.spec (λ c κs. search needs) returns (λ c. search needs) slice-aggregate-read-full (λ c κs. search needs)
+    (λ c. search needs) returns-2 (λ c. search needs) returns-3)

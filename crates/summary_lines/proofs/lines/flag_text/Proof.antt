@@ -28,10 +28,4 @@ returns-3 c =
 pub flag-text-spec : {M : Type 1} → statement M
 flag-text-spec =
     tie.close
-    (tie.spec
-    (λ c. search needs)
-    returns
-    (λ c. search needs)
-    returns-2
-    (λ c. search needs)
-    returns-3)
+    (tie.spec (λ c. search needs) returns (λ c. search needs) returns-2 (λ c. search needs) returns-3)

@@ -16,9 +16,5 @@ returns-2 c = sym (List·getD-eq-default types noType (c .before .if1 .left))
 
 pub type-text-spec : {M : Type 1} → statement M
 type-text-spec =
-    tie.close (tie.spec
-    (λ c. search needs)
-    (λ c. search needs)
-    returns
-    (λ c. search needs)
-    returns-2)
+    tie.close
+    (tie.spec (λ c. search needs) (λ c. search needs) returns (λ c. search needs) returns-2)

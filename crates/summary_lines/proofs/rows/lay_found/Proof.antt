@@ -15,10 +15,5 @@ returns-2 c = (omega arith, rw (c .enum-told .given .1) stored-none)
 
 pub lay-found-spec : {M : Type 1} → statement M
 lay-found-spec =
-    tie.close (tie.spec
-    (λ c. search needs)
-    (λ c κs. search needs)
-    (λ c. search needs)
-    (λ c. search needs)
-    returns
-    returns-2)
+    tie.close
+    (tie.spec (λ c. search needs) (λ c κs. search needs) (λ c. search needs) (λ c. search needs) returns returns-2)

@@ -90,19 +90,5 @@ returns-2 c =
 pub lengths-of-spec : {M : Type 1} → statement M
 lengths-of-spec =
     tie.close
-    (tie.spec
-    Inv-loop
-    μ-loop
-    loop-holds
-    mul-slot-bits
-    array-read-slot-bits
-    slot-bits-requires
-    (λ c. search needs)
-    (λ c. search needs)
-    array-write-widths
-    (λ c. search needs)
-    returns
-    add-i
-    loop-less
-    loop-again
-    returns-2)
+    (tie.spec Inv-loop μ-loop loop-holds mul-slot-bits array-read-slot-bits slot-bits-requires (λ c. search needs)
+    (λ c. search needs) array-write-widths (λ c. search needs) returns add-i loop-less loop-again returns-2)

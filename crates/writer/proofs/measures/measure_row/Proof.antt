@@ -66,10 +66,10 @@ loop-again c =
     let y = array-bytes-turn (a .t1) (a .count) (a .ns .now) (a .from) (l .i) h m in
     let z = array-sum-turn (a .t1) (a .count) (a .ns .now) (a .from) (l .i) h m in (
       omega arith,
-      omega (arith, l .inv, c .slot-bytes .ensures .1),
+      omega (arith, l .inv, c .bytes-of-length .ensures .1),
       omega (arith, l .inv, b),
       rw (c .before .slot-fits .ensures) (sym (and-assoc (l .fits) _ _) ∙ (rw f at (l .inv .3))),
-      omega (arith, y, c .slot-bytes .ensures .0, l .inv .4),
+      omega (arith, y, c .bytes-of-length .ensures .0, l .inv .4),
       omega (arith, z, l .inv .5),
     )
 
@@ -88,21 +88,6 @@ returns c =
 pub measure-row-spec : {M : Type 1} → statement M
 measure-row-spec =
     tie.close
-    (tie.spec
-    Inv-loop
-    μ-loop
-    loop-holds
-    (λ c. search needs)
-    (λ c. search needs)
-    (λ c. search needs)
-    (λ c. search needs)
-    (λ c. search needs)
-    (λ c κs. search needs)
-    (λ c κs. search needs)
-    (λ c. search needs)
-    cast-payload
-    add-payload
-    (λ c. search needs)
-    (λ c. search needs)
-    loop-again
-    returns)
+    (tie.spec Inv-loop μ-loop loop-holds (λ c. search needs) (λ c. search needs) (λ c. search needs)
+    (λ c. search needs) (λ c. search needs) (λ c κs. search needs) (λ c κs. search needs) (λ c. search needs)
+    cast-payload add-payload (λ c. search needs) (λ c. search needs) loop-again returns)

@@ -1,0 +1,18 @@
+-- `config_reader::ending_fields::crc_if` meets its contract.
+use borrow.Author.Needs.{needs}
+use borrow.Author.Tests.{eq-eqb, ne-eqb}
+use Rattle.kernel.proofs.Chain.{met, so, gives, yes-way, no-way}
+use Rattle.config_reader.proofs.ending_fields.crc_if.Statement.{statement}
+use Rattle.config_reader.proofs.ending_fields.crc_if.Tie as tie
+
+returns : tie.Need-returns
+returns c = so (yes-way _ (eq-eqb _ 1 (c .before .if1 .taken)) (met _ _ _ _ (c .fetch .ensures)))
+
+returns-2 : tie.Need-returns-2
+returns-2 c = so (no-way _ (ne-eqb _ 1 (c .if1 .left)) gives)
+
+pub crc-if-spec : {M : Type 1} → statement M
+crc-if-spec = tie.close (tie.spec
+    (λ c κs. search needs)
+    returns
+    returns-2)

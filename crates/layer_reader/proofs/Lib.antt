@@ -1,0 +1,3 @@
+-- The theorems.
+pub mod Theorems
+pub mod Contracts
