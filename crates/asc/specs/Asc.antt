@@ -115,10 +115,10 @@ inFront t x = cond (eqb t 5) (Type5 x) (Type29 x)
 -- GASpecificConfig
 unfoldable pub gaSpecificConfig : Window → Reading Flags
 gaSpecificConfig win = do
-  frame ← field win 1
+  flag ← field win 1
   depends ← unset win
   extension ← unset win
-  give (record { flag = frame; depends = depends; extension = extension })
+  give (record { flag = flag; depends = depends; extension = extension })
 
 abbrev pub configOf : ℕ → Freq → ℕ → Flags → Form → Config
 configOf t f c g m =

@@ -9,7 +9,7 @@ ghost use mathlib.Core.Path.{_≡_};
 ghost use Rattle.kernel.specs.Reading.{Stands};
 ghost use Rattle.kernel.specs.Answer.{toldFetched};
 ghost use Rattle.kernel.specs.Promises.{Tells};
-ghost use Rattle.asc.specs.Asc.{channelConfiguration, unset, inFront, gaSpecificConfig, alone, underFront};
+ghost use Rattle.asc.specs.Asc.{channelConfiguration, unset, inFront, gaSpecificConfig, configOf, alone, underFront};
 ghost use Rattle.asc.specs.Asc.{audioSpecificConfig};
 ghost use Rattle.asc.specs.Answer.{toldFlagged, toldConfigured};
 use bits::take_at;
@@ -118,7 +118,7 @@ fn flags_of(el: &[u8], win: Window, c: Cursor) -> Flagged
     ensures { λ r. ⌜ Tells toldFlagged (now (el .entry)) (gaSpecificConfig win) (c .at) (c .fields) r ⌝ }
 {
     let a = take_at(el, win, c, 1);
-    let Fetched::Value(frame, c1) = a else {
+    let Fetched::Value(flag, c1) = a else {
         return Flagged::Refused(why(a));
     };
     let b = unset_of(el, win, c1);
@@ -131,12 +131,26 @@ fn flags_of(el: &[u8], win: Window, c: Cursor) -> Flagged
     };
     Flagged::Value(ReadFlags {
         flags: Flags {
-            flag: frame,
+            flag: flag,
             depends: depends,
             extension: extension,
         },
         next: c3,
     })
+}
+
+fn config_of(core: u32, freq: Freq, channels: u32, flags: Flags, form: Form) -> Config
+    ensures { λ r. ⌜ r ≡ configOf core freq channels flags form ⌝ }
+{
+    Config {
+        core: core,
+        freq: freq,
+        channels: channels,
+        flag: flags.flag,
+        depends: flags.depends,
+        extension: flags.extension,
+        form: form,
+    }
 }
 
 // A core type alone.
@@ -154,17 +168,10 @@ fn alone_of(el: &[u8], win: Window, c: Cursor, t: u32, f: Freq, channels: u32) -
     };
     let flags = flagged.flags;
     let form = formed.form;
+    let config = config_of(t, f, channels, flags, form);
     let next = formed.next;
     Configured::Value(ReadConfig {
-        config: Config {
-            core: t,
-            freq: f,
-            channels: channels,
-            flag: flags.flag,
-            depends: flags.depends,
-            extension: flags.extension,
-            form: form,
-        },
+        config: config,
         next: next,
     })
 }
@@ -198,17 +205,10 @@ fn under_front(el: &[u8], win: Window, c: Cursor, t: u32, f: Freq, channels: u32
     let flags = flagged.flags;
     let x = rated.freq;
     let form = in_front(t, x);
+    let config = config_of(core, f, channels, flags, form);
     let next = flagged.next;
     Configured::Value(ReadConfig {
-        config: Config {
-            core: core,
-            freq: f,
-            channels: channels,
-            flag: flags.flag,
-            depends: flags.depends,
-            extension: flags.extension,
-            form: form,
-        },
+        config: config,
         next: next,
     })
 }

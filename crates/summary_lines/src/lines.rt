@@ -20,7 +20,7 @@ fn lay_place(
     layer: usize,
     stream: usize,
 ) -> usize
-    requires { ⌜ at ≤ 90000 ⌝ }
+    requires { ⌜ at + 31 ≤ 1000000 ⌝ }
     ensures { λ r. ⌜ (r ≡ at + 31)
         × Stored (now (out .entry)) at (placeText element program layer stream) (now (out .exit)) r ⌝ }
 {
@@ -48,7 +48,7 @@ fn type_text(core: usize) -> [u8; 12]
 }
 
 fn lay_core(out: &mut [u8], at: usize, core: usize, rate: usize, output: usize) -> usize
-    requires { ⌜ at ≤ 90000 ⌝ }
+    requires { ⌜ at + 33 ≤ 1000000 ⌝ }
     ensures { λ r. ⌜ (r ≡ at + 33) × Stored (now (out .entry)) at (coreText core rate output) (now (out .exit)) r ⌝ }
 {
     let name = type_text(core);
@@ -76,7 +76,7 @@ fn flag_text(flag: i32) -> [u8; 15]
 }
 
 fn lay_signal(out: &mut [u8], at: usize, sbr: i32, ps: i32, channels: usize) -> usize
-    requires { ⌜ at ≤ 90000 ⌝ }
+    requires { ⌜ at + 48 ≤ 1000000 ⌝ }
     ensures { λ r. ⌜ (r ≡ at + 48) × Stored (now (out .entry)) at (signalText sbr ps channels) (now (out .exit)) r ⌝ }
 {
     let s = flag_text(sbr);
@@ -89,7 +89,7 @@ fn lay_signal(out: &mut [u8], at: usize, sbr: i32, ps: i32, channels: usize) -> 
 
 // A row's line.
 pub fn lay_row(out: &mut [u8], at: usize, element: usize, stream: usize, r: Row) -> usize
-    requires { ⌜ at ≤ 80000 ⌝ }
+    requires { ⌜ at + 112 ≤ 1000000 ⌝ }
     ensures { λ x. ⌜ (x ≡ at + 112) × Stored (now (out .entry)) at (rowText element stream r) (now (out .exit)) x ⌝ }
 {
     let a = lay_place(
@@ -105,7 +105,7 @@ pub fn lay_row(out: &mut [u8], at: usize, element: usize, stream: usize, r: Row)
 }
 
 fn lay_refused_at(out: &mut [u8], at: usize, element: usize, number: usize, place: usize) -> usize
-    requires { ⌜ at ≤ 90000 ⌝ }
+    requires { ⌜ at + 33 ≤ 1000000 ⌝ }
     ensures { λ r. ⌜ (r ≡ at + 33)
         × Stored (now (out .entry)) at (refusedAtText element number place) (now (out .exit)) r ⌝ }
 {
@@ -117,7 +117,7 @@ fn lay_refused_at(out: &mut [u8], at: usize, element: usize, number: usize, plac
 }
 
 fn lay_refused_why(out: &mut [u8], at: usize, number: usize, count: usize) -> usize
-    requires { ⌜ at ≤ 90000 ⌝ }
+    requires { ⌜ at + 90 ≤ 1000000 ⌝ }
     ensures { λ r. ⌜ (r ≤ at + 90) × Stored (now (out .entry)) at (refusedWhyText number count) (now (out .exit)) r ⌝ }
 {
     let a = lay(out, at, b"  fields read ");
@@ -129,7 +129,7 @@ fn lay_refused_why(out: &mut [u8], at: usize, number: usize, count: usize) -> us
 
 // The line of a refused element.
 pub fn lay_refused(out: &mut [u8], at: usize, element: usize, x: Refusal) -> usize
-    requires { ⌜ at ≤ 80000 ⌝ }
+    requires { ⌜ at + 123 ≤ 1000000 ⌝ }
     ensures { λ r. ⌜ (r ≤ at + 123) × Stored (now (out .entry)) at (refusedText element x) (now (out .exit)) r ⌝ }
 {
     let a = lay_refused_at(out, at, element, x.number, x.place);

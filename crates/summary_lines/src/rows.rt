@@ -9,7 +9,7 @@ use row::cell_at;
 use row::row_of;
 
 fn lay_found(out: &mut [u8], at: usize, element: usize, stream: usize, x: Rowed) -> usize
-    requires { ⌜ at ≤ 80000 ⌝ }
+    requires { ⌜ at + 112 ≤ 1000000 ⌝ }
     ensures { λ r. ⌜ (r ≤ at + 112) × Stored (now (out .entry)) at (foundText element stream x) (now (out .exit)) r ⌝ }
 {
     match x {
@@ -26,7 +26,7 @@ fn lay_layers(
     table: [[u8; 8]; 16],
     p: u32,
 ) -> usize
-    requires { ⌜ (at ≤ 79000) × (p < 16) ⌝ }
+    requires { ⌜ (at + 896 ≤ 1000000) × (p < 16) ⌝ }
     ensures { λ x. ⌜ (x ≤ at + 896)
         × Stored (now (out .entry)) at (layersText element r table p 0 8) (now (out .exit)) x ⌝ }
 {
@@ -43,7 +43,7 @@ fn lay_layers(
 
 // A line for each stream that the table has; the byte behind them.
 pub fn lay_rows(out: &mut [u8], at: usize, element: usize, r: Record, table: [[u8; 8]; 16]) -> usize
-    requires { ⌜ at ≤ 65536 ⌝ }
+    requires { ⌜ at + 14336 ≤ 1000000 ⌝ }
     ensures { λ x. ⌜ (x ≤ at + 14336)
         × Stored (now (out .entry)) at (programsText element r table 0 16) (now (out .exit)) x ⌝ }
 {

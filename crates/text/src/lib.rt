@@ -19,7 +19,7 @@ fn digit_or_blank(n: usize) -> u8
 
 // The places in front of a number's last digit.
 fn lay_figures(out: &mut [u8], at: usize, width: usize, n: usize)
-    requires { ⌜ at + width ≤ 100000 ⌝ }
+    requires { ⌜ at + width ≤ 1000000 ⌝ }
     ensures { λ r. ⌜ Stored (now (out .entry)) at (figures width n) (now (out .exit)) (at + width) ⌝ }
 {
     let mut left = width;
@@ -33,7 +33,7 @@ fn lay_figures(out: &mut [u8], at: usize, width: usize, n: usize)
 
 // A number at the right of so many places; the byte behind it.
 pub fn lay_number(out: &mut [u8], at: usize, width: usize, n: usize) -> usize
-    requires { ⌜ (1 ≤ width) × (at + width ≤ 100000) ⌝ }
+    requires { ⌜ (1 ≤ width) × (at + width ≤ 1000000) ⌝ }
     ensures { λ r. ⌜ (r ≡ at + width) × Stored (now (out .entry)) at (number width n) (now (out .exit)) r ⌝ }
 {
     lay_figures(out, at, width - 1, n / 10);
@@ -43,7 +43,7 @@ pub fn lay_number(out: &mut [u8], at: usize, width: usize, n: usize) -> usize
 
 // The same with two blanks in front, so that columns never touch.
 pub fn lay_column(out: &mut [u8], at: usize, width: usize, n: usize) -> usize
-    requires { ⌜ (1 ≤ width) × (at + 2 + width ≤ 100000) ⌝ }
+    requires { ⌜ (1 ≤ width) × (at + 2 + width ≤ 1000000) ⌝ }
     ensures { λ r. ⌜ (r ≡ at + 2 + width) × Stored (now (out .entry)) at (column width n) (now (out .exit)) r ⌝ }
 {
     let a = lay(out, at, b"  ");
@@ -114,7 +114,7 @@ fn size_of(number: usize) -> usize
 }
 
 fn lay_known(out: &mut [u8], at: usize, number: usize) -> usize
-    requires { ⌜ (at ≤ 100000) × (number < 21) ⌝ }
+    requires { ⌜ (at + 68 ≤ 1000000) × (number < 21) ⌝ }
     ensures { λ r. ⌜ (r ≤ at + 68) × Stored (now (out .entry)) at (wordsOf number) (now (out .exit)) r ⌝ }
 {
     let line = line_of(number);
@@ -124,7 +124,7 @@ fn lay_known(out: &mut [u8], at: usize, number: usize) -> usize
 
 // A refusal in plain words; the byte behind them.
 pub fn lay_words(out: &mut [u8], at: usize, number: usize) -> usize
-    requires { ⌜ at ≤ 100000 ⌝ }
+    requires { ⌜ at + 68 ≤ 1000000 ⌝ }
     ensures { λ r. ⌜ (r ≤ at + 68) × Stored (now (out .entry)) at (wordsOf number) (now (out .exit)) r ⌝ }
 {
     if number < 21 {

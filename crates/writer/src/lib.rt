@@ -44,7 +44,7 @@ struct Measure {
 
 // MuxSlotLengthBytes.
 fn put_length(out: &mut [u8], at: usize, n: u32) -> usize
-    requires { ⌜ (at ≤ 900000) × (n ≤ 8191) ⌝ }
+    requires { ⌜ (at + 264 ≤ 1000000) × (n ≤ 8191) ⌝ }
     ensures { λ r. ⌜ (r ≤ at + 264) × Put (now (out .entry)) at (lengthBits n) (now (out .exit)) r ⌝ }
 {
     let mut left = n;
@@ -57,7 +57,7 @@ fn put_length(out: &mut [u8], at: usize, n: u32) -> usize
 }
 
 fn put_slot(out: &mut [u8], at: usize, s: Stream, n: u32) -> usize
-    requires { ⌜ (at ≤ 800000) × (n ≤ 8191) ⌝ }
+    requires { ⌜ (at + 264 ≤ 1000000) × (n ≤ 8191) ⌝ }
     ensures { λ r. ⌜ (r ≤ at + 264) × Put (now (out .entry)) at (slotBits (s .kind) n) (now (out .exit)) r ⌝ }
 {
     if s.kind == 0 {
@@ -75,7 +75,7 @@ fn put_lengths(
     ns: &[u32],
     from: usize,
 ) -> usize
-    requires { ⌜ (at ≤ 700000) × (count ≤ 16) × (from + count ≤ length (now ns))
+    requires { ⌜ (at + 4224 ≤ 1000000) × (count ≤ 16) × (from + count ≤ length (now ns))
         × (sumOf count (drop from (now ns)) ≤ 8191) ⌝ }
     ensures { λ r. ⌜ (r ≤ at + 4224)
         × Put (now (out .entry)) at (lengthsBits (take count streams) (drop from (now (ns .entry))))
@@ -101,7 +101,7 @@ fn put_subframes(
     ns: &[u32],
     payload: &[u8],
 ) -> usize
-    requires { ⌜ (at ≤ 100000) × (count ≤ 16) × (n ≤ 64) × (length (now ns) ≡ n * count)
+    requires { ⌜ (at + 335864 ≤ 1000000) × (count ≤ 16) × (n ≤ 64) × (length (now ns) ≡ n * count)
         × (sumOf (n * count) (now ns) ≡ length (now payload)) × (length (now payload) ≤ 8191) ⌝ }
     ensures { λ r. ⌜ (r ≤ at + 335864)
         × Put (now (out .entry)) at (bitsIn
@@ -136,7 +136,7 @@ fn put_front(out: &mut [u8], send: bool, r: Record) -> usize
 }
 
 fn put_other(out: &mut [u8], at: usize, present: u32, bits: u32, other: &[u8]) -> usize
-    requires { ⌜ (at ≤ 400000) × (length (now other) ≤ 8191)
+    requires { ⌜ (at + 65528 ≤ 1000000) × (length (now other) ≤ 8191)
         × (eqb present 1 ≡ true → bits ≤ 8 * length (now other)) ⌝ }
     ensures { λ r. ⌜ (r ≤ at + 65528)
         × Put (now (out .entry)) at (otherBits present bits (now (other .entry))) (now (out .exit)) r ⌝ }
@@ -149,7 +149,7 @@ fn put_other(out: &mut [u8], at: usize, present: u32, bits: u32, other: &[u8]) -
 
 // Zeros up to a byte.
 fn put_alignment(out: &mut [u8], at: usize) -> usize
-    requires { ⌜ at ≤ 900000 ⌝ }
+    requires { ⌜ at + 7 ≤ 1000000 ⌝ }
     ensures { λ r. ⌜ Put (now (out .entry)) at (bitsOf ((8 - at % 8) % 8) 0) (now (out .exit)) r ⌝ }
 {
     put(out, at, (8 - at % 8) % 8, 0)

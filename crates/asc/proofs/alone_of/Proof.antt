@@ -42,10 +42,10 @@ returns-2 c =
 
 returns-3 : tie.Need-returns-3
 unfolding alone
-returns-3 c = ends (formed (c .before .before .before)) refl gives
+returns-3 c = rw (c .before .config-of .ensures) (ends (formed (c .before .before .before .before)) refl gives)
 
 pub alone-of-spec : {M : Type 1} → statement M
 alone-of-spec =
     tie.close
     (tie.spec (λ c κs. search needs) (λ c. search needs) (λ c. search needs) returns tail-of-requires
-    (λ c. search needs) (λ c. search needs) returns-2 returns-3)
+    (λ c. search needs) (λ c. search needs) returns-2 (λ c κs. search needs) returns-3)

@@ -64,11 +64,14 @@ returns-3 c =
 
 returns-4 : tie.Need-returns-4
 unfolding underFront
-returns-4 c = rw (c .before .in-front .ensures) (ends (flagged (c .before .before .before .before)) refl gives)
+returns-4 c =
+    rw (c .before .config-of .ensures, c .before .before .in-front .ensures)
+    (ends (flagged (c .before .before .before .before .before)) refl gives)
 
 pub under-front-spec : {M : Type 1} → statement M
 under-front-spec =
     tie.close
     (tie.spec (λ c κs. search needs) (λ c. search needs) (λ c. search needs) returns object-type-requires
     (λ c. search needs) (λ c. search needs) (λ c κs. search needs) returns-2 flags-of-requires (λ c. search needs)
-    (λ c. search needs) returns-3 (λ c κs. search needs) returns-4)
+    (λ c. search needs) returns-3 (λ c κs. search needs)
+    (λ c κs. search needs) returns-4)
