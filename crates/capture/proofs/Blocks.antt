@@ -8,13 +8,12 @@ use native.Mathlib.Omega.{arith}
 use lib.Dec.{leb}
 use lib.ListN.{length, length-append}
 use borrow.Author.Tests.{le-leb}
-use Rattle.capture.specs.declared.Point.{Point}
-use Rattle.capture.specs.Frames.{Seen, Next, frame, none, behind, thenFrames, nextOf, framesFrom, framesOf}
+use Rattle.capture.specs.Frames.{Point, Seen, Next, frame, none, behind, thenFrames, nextOf, framesFrom, framesOf}
 use Rattle.capture.specs.Frames.{behindAll}
 use Rattle.capture.specs.Blocks.{textOf, afterAll, fitting, blockOf, blocks}
 use Rattle.kernel.specs.Lists.{Stored}
 use Rattle.kernel.proofs.Lists.{ToStore, store-all, store-on, stored-none}
-use Rattle.capture.proofs.Frames.{no-frames, frames-on, sittings, few-frames}
+use Rattle.capture.proofs.Frames.{no-frames, frames-on, sittings, few-frames, further}
 
 module _ {S : Type 0} (text : S → Seen → List ℕ) (after : S → Seen → S) where
   text-append : (x : S) (ms ns : List Seen)
@@ -97,14 +96,16 @@ module _ {S : Type 0} (text : S → Seen → List ℕ) (after : S → Seen → S
           subst (λ (ms : List Seen). framesOf s room c ≡ ms ++ framesOf s room (behindAll c ms))
           (sym (firsts (length s) x 0 c)) (sittings s room (length b) c)
 
-      -- behind a full block fewer frames are left
-      pub fewer-left : (x : S) (c : Point) → let ms = blockOf text after most size x (framesOf s room c) in
+      -- behind a full block the capture is come further
+      pub full-further : (x : S) (c : Point) → let ms = blockOf text after most size x (framesOf s room c) in
           most ≤ size → size < length (textOf text after x ms) + most
-          → length (framesOf s room (behindAll c ms)) < length (framesOf s room c)
-      fewer-left x c h l =
-          let ms = blockOf text after most size x (framesOf s room c) in
-          let n = some-frame x ms (omega arith) in
-          omega (arith, n, ap length (block-then x c) ∙ length-append ms _)
+          → (c .at < behindAll c ms .at) × (behindAll c ms .at ≤ length s)
+      unfolding IsFirst
+      full-further x c h l =
+          let b = blockOf text after most size x (framesOf s room c) in
+          let n = some-frame x b (omega arith) in
+          subst (λ (ms : List Seen). 1 ≤ length ms → (c .at < behindAll c ms .at) × (behindAll c ms .at ≤ length s))
+          (sym (firsts (length s) x 0 c)) (further s room (length b) c) n
 
       all-laid : (k : ℕ) (x : S) (c : Point) → most ≤ size → length (framesOf s room c) ≤ k
           → blocks text after most size (framesOf s room) k x c ≡ textOf text after x (framesOf s room c)

@@ -3,7 +3,7 @@
 use mathlib.Core.Path.{_≡_, refl, ap, sym, _∙_, subst}
 use mathlib.Core.Bool.{Bool, true, false, cond}
 use mathlib.Core.List.{List, [], _∷_, _++_}
-use Prim.Native.Nat.{ℕ, zero, suc, _+_, _-_, _%_, _≤_}
+use Prim.Native.Nat.{ℕ, zero, suc, _+_, _-_, _%_, _≤_, _<_}
 use native.Mathlib.Nat.{zero-add, suc-add}
 use native.Mathlib.Omega.{arith}
 use lib.Dec.{ltb}
@@ -13,8 +13,7 @@ use Rattle.sync.specs.declared.Hunted.{Hunted}
 use Rattle.sync.specs.declared.Hunted.the-variants.{Found, Refused}
 use Rattle.sync.specs.Sync.{firstOf, huntOf}
 use Rattle.sync.proofs.Theorems.{element-is-inside}
-use Rattle.capture.specs.declared.Point.{Point}
-use Rattle.capture.specs.Frames.{Seen, Next, frame, none, behind, thenFrames, seenAt, nextBy, nextOf}
+use Rattle.capture.specs.Frames.{Point, Seen, Next, frame, none, behind, thenFrames, seenAt, nextBy, nextOf}
 use Rattle.capture.specs.Frames.{framesFrom, framesOf, behindAll, OfEach}
 use Rattle.capture.specs.Claims.{Numbered}
 
@@ -99,6 +98,31 @@ module _ (s : List ℕ) (room : ℕ) where
   sittings k c =
       let e : length s + k ≡ k + length s = omega arith in
       sym (all-frames k (length s) c (omega arith)) ∙ ap (λ (n : ℕ). framesFrom s room n c) e ∙ two-goes k (length s) c
+
+  -- behind some frames a capture is come further, and not beyond its end
+  further-from : (c d : Point) (ms : List Seen) → c .at < d .at → d .at ≤ length s
+      → (1 ≤ length ms → (d .at < behindAll d ms .at) × (behindAll d ms .at ≤ length s))
+      → (c .at < behindAll d ms .at) × (behindAll d ms .at ≤ length s)
+  unfolding behindAll
+  further-from c d [] lo hi f = (lo, hi)
+  further-from c d (m ∷ ms) lo hi f = let g = f (omega arith) in (omega (arith, g .0), g .1)
+
+  further-next : (k : ℕ) (c : Point) (x : Next) → nextOf s room c ≡ x
+      → ((d : Point) → let ms = framesFrom s room k d in
+      1 ≤ length ms → (d .at < behindAll d ms .at) × (behindAll d ms .at ≤ length s))
+      → let ms = thenFrames x (framesFrom s room k) in
+      1 ≤ length ms → (c .at < behindAll c ms .at) × (behindAll c ms .at ≤ length s)
+  unfolding behindAll
+  further-next k c (frame m) e ih h =
+      let i = next-inside c m e in
+      further-from c (behind m) (framesFrom s room k (behind m)) (omega (arith, i)) (i .2) (ih (behind m))
+  further-next k c none e ih h = absurd (omega arith)
+
+  pub further : (k : ℕ) (c : Point) → let ms = framesFrom s room k c in
+      1 ≤ length ms → (c .at < behindAll c ms .at) × (behindAll c ms .at ≤ length s)
+  unfolding framesFrom
+  further zero c h = absurd (omega arith)
+  further (suc k) c h = further-next k c (nextOf s room c) refl (further k) h
 
   few-next : (k : ℕ) (x : Next) → ((d : Point) → length (framesFrom s room k d) ≤ k)
       → length (thenFrames x (framesFrom s room k)) ≤ suc k

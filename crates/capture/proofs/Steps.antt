@@ -1,67 +1,110 @@
 -- Laws of the step of a capture, by what the hunt and the reading promise.
 use mathlib.Core.Path.{_≡_, refl, ap, sym, _∙_, subst}
 use mathlib.Core.List.{List}
-use Prim.Native.Nat.{ℕ, _+_, _%_}
+use Prim.Native.Nat.{ℕ, _+_, _%_, _≤_, _<_}
 use native.Mathlib.Omega.{arith}
 use lib.ListN.{length}
 use Rattle.kernel.specs.Answer.{unread}
+use Rattle.kernel.specs.Element.{Answer}
 use Rattle.kernel.specs.declared.Refusal.{Refusal}
+use Rattle.records.specs.declared.Record.{Record}
 use Rattle.sync.specs.declared.Hunted.{Hunted}
 use Rattle.sync.specs.declared.Hunted.the-variants as hunted
 use Rattle.sync.specs.Sync.{huntOf, elementAt}
+use Rattle.element.specs.declared.Held.{Held}
 use Rattle.element.specs.declared.Verdict.{Verdict}
 use Rattle.element.specs.declared.Verdict.the-variants as verdict
-use Rattle.element.specs.declared.Reply.{Reply}
-use Rattle.element.specs.Reply.{answer, replyOf, verdictOf, mapAfter, tableAfter}
-use Rattle.capture.specs.declared.Point.{Point}
+use Rattle.element.specs.Mux.{Applied}
+use Rattle.element.specs.Reply.{answer, verdictOf, sentBy, heldBy, mapAfter, tableAfter}
+use Rattle.reader.specs.declared.Prepared.{Prepared}
+use Rattle.reader.specs.declared.PreparedReply.{PreparedReply}
+use Rattle.reader.specs.Prepared.{preparedOf, repliedBy, Leaves}
+use Rattle.reader.proofs.Preparing.{then-prepared, then-held}
+use Rattle.capture.specs.declared.Mark.{Mark}
 use Rattle.capture.specs.declared.Found.{Found}
 use Rattle.capture.specs.declared.Found.the-variants.{Frame, End}
 use Rattle.capture.specs.declared.Step.{Step}
-use Rattle.capture.specs.Frames.{Seen, Next, frame, none, behind, seenAt, nextBy, nextOf, stepOf, mapBy, tableBy}
+use Rattle.capture.specs.Frames.{Point, Seen, Next, frame, none, behind, seenAt, nextBy, nextOf, markOf, stepOf}
+use Rattle.capture.specs.Frames.{pointAt, mapBy, tableBy}
 use Rattle.capture.specs.Promises.{AdvancePromise}
-use Rattle.capture.proofs.Frames.{OfNext}
+use Rattle.capture.proofs.Frames.{OfNext, next-inside}
 
 -- the step to a frame with this reply to its element
-abbrev pub stepWith : Point → ℕ → ℕ → Reply → Step
-stepWith c p n r = record {
+abbrev pub stepWith : Mark → ℕ → ℕ → PreparedReply → Step
+stepWith from p n r = record {
   found = Frame p n (r .verdict);
-  next = record { at = p + 3 + n; number = c .number % 65536 + 1; held = r .held };
+  sent = r .sent;
+  next = record { at = p + 3 + n; number = from .number % 65536 + 1; prepared = r .prepared };
 }
 
-module _ (s : List ℕ) (room : ℕ) (c : Point) where
-  pub none-next : (x : Refusal) → huntOf s (c .at) ≡ hunted.Refused x → nextOf s room c ≡ none
-  none-next x e = ap (nextBy s room c) e
+pub held-at : (c : Point) {from : Mark} → from ≡ markOf c → from .prepared ≡ preparedOf (c .held)
+held-at c mark = ap (λ (m : Mark). m .prepared) mark
 
-  module _ (p n : ℕ) (found : huntOf s (c .at) ≡ hunted.Found p n) where
+pub mark-at : (from : Mark) (held : Held) → from .prepared ≡ preparedOf held → from ≡ markOf (pointAt from held)
+mark-at from held e i = record { at = from .at; number = from .number; prepared = e i }
+
+module _ (s : List ℕ) (room : ℕ) (c : Point) {from : Mark} (mark : from ≡ markOf c) where
+  hunted-from : {h : Hunted} → huntOf s (from .at) ≡ h → huntOf s (c .at) ≡ h
+  hunted-from e = ap (λ (m : Mark). huntOf s (m .at)) (sym mark) ∙ e
+
+  pub none-next : {x : Refusal} → huntOf s (from .at) ≡ hunted.Refused x → nextOf s room c ≡ none
+  none-next e = ap (nextBy s room c) (hunted-from e)
+
+  module _ (p n : ℕ) (found : huntOf s (from .at) ≡ hunted.Found p n) {el : List ℕ} (at : el ≡ elementAt s p n) where
     next-found : nextOf s room c ≡ frame (seenAt s room c p n)
-    next-found = ap (nextBy s room c) found
+    next-found = ap (nextBy s room c) (hunted-from found)
 
-    module _ {el : List ℕ} (at : el ≡ elementAt s p n) where
-      pub step-is : {r : Reply} → r ≡ replyOf el (c .held) room → stepWith c p n r ≡ stepOf c (nextOf s room c)
-      step-is e = ap (stepWith c p n) (e ∙ ap (λ (t : List ℕ). replyOf t (c .held) room) at)
-          ∙ ap (stepOf c) (sym next-found)
+    seen : Answer Applied
+    seen = answer (elementAt s p n) (c .held) room
 
-      pub map-is : (map : List ℕ) {map′ : List ℕ} → map′ ≡ mapAfter map (answer el (c .held) room)
-          → map′ ≡ mapBy map (nextOf s room c)
-      map-is map e = e ∙ ap (λ (t : List ℕ). mapAfter map (answer t (c .held) room)) at
-          ∙ ap (mapBy map) (sym next-found)
+    step-seen : stepWith (markOf c) p n (repliedBy (preparedOf (c .held)) seen) ≡ stepOf c (frame (seenAt s room c p n))
+    unfolding seen
+    step-seen =
+        ap (λ (z : Prepared). stepWith (markOf c) p n (record { verdict = verdictOf seen; sent = sentBy seen; prepared = z }))
+        (then-prepared (c .held) seen)
 
-      pub table-is : (table : List (List ℕ)) {table′ : List (List ℕ)}
-          → table′ ≡ tableAfter table (answer el (c .held) room) → table′ ≡ tableBy table (nextOf s room c)
-      table-is table e = e ∙ ap (λ (t : List ℕ). tableAfter table (answer t (c .held) room)) at
-          ∙ ap (tableBy table) (sym next-found)
+    pub step-is : (map : List ℕ) (table : List (List ℕ)) {r : PreparedReply} {map′ : List ℕ} {table′ : List (List ℕ)}
+        → Leaves (from .prepared) (answer el (c .held) room) map table r map′ table′
+        → let x = nextOf s room c in
+        (stepWith from p n r ≡ stepOf c x) × (map′ ≡ mapBy map x) × (table′ ≡ tableBy table x)
+    unfolding seen
+    step-is map table l =
+        let k = rw (at, mark) at l in
+        rw (next-found, mark) (ap (stepWith (markOf c) p n) (k .0) ∙ step-seen, k .1, k .2)
 
 -- which frame a step took, by the promise of `advance`
 pub record Took (s : List ℕ) (room : ℕ) (c : Point) (map map′ : List ℕ) (table table′ : List (List ℕ)) (v : Verdict)
-    (next : Point) : Type 0 where
+    (sent : Record) (next : Mark) : Type 0 where
   pub seen : Seen
   pub is : nextOf s room c ≡ frame seen
   pub number : seen .number ≡ c .number
   pub before : seen .before ≡ c .held
   pub verdict : v ≡ verdictOf (seen .reading)
-  pub then : next ≡ behind seen
+  pub sent-is : sent ≡ sentBy (seen .reading)
+  pub then : next ≡ markOf (behind seen)
   pub map-after : map′ ≡ mapAfter map (seen .reading)
   pub table-after : table′ ≡ tableAfter table (seen .reading)
+
+-- so it has come further
+pub took-further : (s : List ℕ) (room : ℕ) (c : Point) {map map′ : List ℕ} {table table′ : List (List ℕ)} {v : Verdict}
+    {sent : Record} {from next : Mark} → from ≡ markOf c → Took s room c map map′ table table′ v sent next
+    → (from .at < next .at) × (next .at ≤ length s)
+took-further s room c mark t =
+    let i = next-inside s room c (t .seen) (t .is) in
+    rw (mark, t .then) (omega (arith, i .0, i .1), i .2)
+
+-- and what is kept of what is held leads to the point behind the frame
+module _ {s : List ℕ} {room : ℕ} {c : Point} {map map′ : List ℕ} {table table′ : List (List ℕ)} {v : Verdict}
+    {sent : Record} {next : Mark} (t : Took s room c map map′ table table′ v sent next) {held : Held}
+    (e : held ≡ heldBy (c .held) v sent) where
+  held-then : held ≡ behind (t .seen) .held
+  held-then = e ∙ rw (t .verdict, t .sent-is, t .before) (then-held (c .held) (t .seen .reading))
+
+  pub prepared-then : next .prepared ≡ preparedOf held
+  prepared-then = ap (λ (m : Mark). m .prepared) (t .then) ∙ ap preparedOf (sym held-then)
+
+  pub point-then : pointAt next held ≡ behind (t .seen)
+  point-then i = record { at = t .then i .at; number = t .then i .number; held = held-then i }
 
 verdictIn : Found → Verdict
 verdictIn (Frame p n v) = v
@@ -82,7 +125,7 @@ of-place s room c (hunted.Refused x) = tt
 module _ (s : List ℕ) (room : ℕ) (c : Point) (map : List ℕ) (table : List (List ℕ)) {r : Step} where
   took-by : {map′ : List ℕ} {table′ : List (List ℕ)} (x : Next) → nextOf s room c ≡ x → r ≡ stepOf c x
       → map′ ≡ mapBy map x → table′ ≡ tableBy table x
-      → (p n : ℕ) (v : Verdict) → r .found ≡ Frame p n v → Took s room c map map′ table table′ v (r .next)
+      → (p n : ℕ) (v : Verdict) → r .found ≡ Frame p n v → Took s room c map map′ table table′ v (r .sent) (r .next)
   unfolding verdictIn isFrame
   took-by (frame m) q e f g p n v h =
       let w = subst (OfNext (From c)) q (of-place s room c (huntOf s (c .at))) in
@@ -92,6 +135,7 @@ module _ (s : List ℕ) (room : ℕ) (c : Point) (map : List ℕ) (table : List 
         number = w .0;
         before = w .1;
         verdict = sym (ap verdictIn h) ∙ ap (λ (y : Step). verdictIn (y .found)) e;
+        sent-is = ap (λ (y : Step). y .sent) e;
         then = ap (λ (y : Step). y .next) e;
         map-after = f;
         table-after = g;
@@ -105,13 +149,13 @@ module _ (s : List ℕ) (room : ℕ) (c : Point) (map : List ℕ) (table : List 
       absurd (let z : _≡_ {A = ℕ} 1 0 = sym (ap (λ (y : Step). isFrame (y .found)) e) ∙ ap isFrame h in omega arith)
   none-by none q e h = q
 
-  -- a frame was taken,
-  pub took : {map′ : List ℕ} {table′ : List (List ℕ)} → AdvancePromise s c map table r map′ table′ → length map ≡ room
-      → (p n : ℕ) (v : Verdict) → r .found ≡ Frame p n v
-      → Took s room c map map′ table table′ v (r .next)
-  took a l p n v h = let b = rw l at a in took-by (nextOf s room c) refl (b .0) (b .1) (b .2) p n v h
+  module _ {from : Mark} (mark : from ≡ markOf c) {map′ : List ℕ} {table′ : List (List ℕ)}
+      (a : AdvancePromise s from map table r map′ table′) (l : length map ≡ room) where
+    -- a frame was taken,
+    pub took : (p n : ℕ) (v : Verdict) → r .found ≡ Frame p n v
+        → Took s room c map map′ table table′ v (r .sent) (r .next)
+    took p n v h = let b = rw l at (a c mark) in took-by (nextOf s room c) refl (b .0) (b .1) (b .2) p n v h
 
-  -- or there was none
-  pub took-none : {map′ : List ℕ} {table′ : List (List ℕ)} → AdvancePromise s c map table r map′ table′
-      → length map ≡ room → r .found ≡ End → nextOf s room c ≡ none
-  took-none a l h = let b = rw l at a in none-by (nextOf s room c) refl (b .0) h
+    -- or there was none
+    pub took-none : r .found ≡ End → nextOf s room c ≡ none
+    took-none h = let b = rw l at (a c mark) in none-by (nextOf s room c) refl (b .0) h

@@ -24,4 +24,7 @@ pub blocks-are-whole : BlocksAreWhole
 blocks-are-whole S text after most size s room x c h = whole text after most size s room x c h
 
 pub advanced-once : AdvancedOnce
-advanced-once s c map map₁ map₂ table table₁ table₂ x y p q = (p .0 ∙ sym (q .0), p .1 ∙ sym (q .1), p .2 ∙ sym (q .2))
+advanced-once s mark map map₁ map₂ table table₁ table₂ x y o p q =
+    let a = p (o .point) (o .is) in
+    let b = q (o .point) (o .is) in
+    (a .0 ∙ sym (b .0), a .1 ∙ sym (b .1), a .2 ∙ sym (b .2))

@@ -4,8 +4,7 @@ use mathlib.Core.List.{List, [], _∷_, _++_}
 use Prim.Native.Nat.{ℕ, zero, suc, _+_}
 use lib.Dec.{leb}
 use lib.ListN.{length}
-use Rattle.capture.specs.declared.Point.{Point}
-use Rattle.capture.specs.Frames.{Seen, behindAll}
+use Rattle.capture.specs.Frames.{Point, Seen, behindAll}
 
 -- a text for each frame, and a state that frames change
 module _ {S : Type 0} (text : S → Seen → List ℕ) (after : S → Seen → S) where

@@ -3,9 +3,9 @@ use mathlib.Core.Path.{_≡_}
 use mathlib.Core.List.{List, [], _∷_, _++_}
 use Prim.Native.Nat.{ℕ, _+_, _≤_}
 use lib.ListN.{length}
-use Rattle.capture.specs.declared.Point.{Point}
+use Rattle.capture.specs.declared.Mark.{Mark}
 use Rattle.capture.specs.declared.Step.{Step}
-use Rattle.capture.specs.Frames.{Seen, frame, start, nextOf, framesFrom, framesOf, behindAll}
+use Rattle.capture.specs.Frames.{Point, Seen, frame, start, nextOf, framesFrom, framesOf, behindAll, OfPoint}
 use Rattle.capture.specs.Blocks.{textOf, blocks}
 use Rattle.capture.specs.Promises.{AdvancePromise}
 
@@ -43,6 +43,6 @@ BlocksAreWhole =
 
 -- the promise of `advance` allows one answer, one map and one table
 abbrev pub AdvancedOnce : Type 0
-AdvancedOnce = (s : List ℕ) (c : Point) (map map₁ map₂ : List ℕ) (table table₁ table₂ : List (List ℕ)) (x y : Step)
-    → AdvancePromise s c map table x map₁ table₁ → AdvancePromise s c map table y map₂ table₂
+AdvancedOnce = (s : List ℕ) (mark : Mark) (map map₁ map₂ : List ℕ) (table table₁ table₂ : List (List ℕ)) (x y : Step)
+    → OfPoint mark → AdvancePromise s mark map table x map₁ table₁ → AdvancePromise s mark map table y map₂ table₂
     → (x ≡ y) × (map₁ ≡ map₂) × (table₁ ≡ table₂)

@@ -1,17 +1,26 @@
 -- The frames of a capture one after the other, each with the answer to its element, and what is held over them.
+use mathlib.Core.Path.{_≡_}
 use mathlib.Core.List.{List, [], _∷_}
 use Prim.Native.Nat.{ℕ, zero, suc, _+_, _%_}
 use lib.ListN.{length}
 use Rattle.kernel.specs.Element.{Answer}
+use Rattle.records.specs.Blank.{noRecord}
 use Rattle.sync.specs.declared.Hunted.{Hunted}
 use Rattle.sync.specs.declared.Hunted.the-variants.{Found, Refused}
 use Rattle.sync.specs.Sync.{huntOf, elementAt}
 use Rattle.element.specs.declared.Held.{Held}
 use Rattle.element.specs.Mux.{Applied}
-use Rattle.element.specs.Reply.{nothingHeld, answer, heldAfter, verdictOf, mapAfter, tableAfter}
-use Rattle.capture.specs.declared.Point.{Point}
+use Rattle.element.specs.Reply.{nothingHeld, answer, heldAfter, verdictOf, sentBy, mapAfter, tableAfter}
+use Rattle.reader.specs.Prepared.{preparedOf}
+use Rattle.capture.specs.declared.Mark.{Mark}
 use Rattle.capture.specs.declared.Found.the-variants.{Frame, End}
 use Rattle.capture.specs.declared.Step.{Step}
+
+-- where a capture is come to: the byte from which the next frame is hunted, the number of its element, what is held
+pub record Point : Type 0 where
+  pub at : ℕ
+  pub number : ℕ
+  pub held : Held
 
 -- a frame of a capture: its place, the bytes and the number of its element, what was held before it, and the answer to
 -- it
@@ -83,10 +92,26 @@ abbrev pub OfEach : (Seen → Type 0) → List Seen → Type 0
 OfEach P [] = Unit {0}
 OfEach P (m ∷ ms) = P m × OfEach P ms
 
+-- what code keeps of a point
+abbrev pub markOf : Point → Mark
+markOf c = record { at = c .at; number = c .number; prepared = preparedOf (c .held) }
+
+pub record OfPoint (mark : Mark) : Type 0 where
+  pub point : Point
+  pub is : mark ≡ markOf point
+
+-- the point of a mark, for code that keeps what is held beside it
+abbrev pub pointAt : Mark → Held → Point
+pointAt mark held = record { at = mark .at; number = mark .number; held = held }
+
 -- what `advance` answers and leaves, by the next frame
 abbrev pub stepOf : Point → Next → Step
-stepOf c (frame m) = record { found = Frame (m .place) (m .size) (verdictOf (m .reading)); next = behind m }
-stepOf c none = record { found = End; next = c }
+stepOf c (frame m) = record {
+  found = Frame (m .place) (m .size) (verdictOf (m .reading));
+  sent = sentBy (m .reading);
+  next = markOf (behind m);
+}
+stepOf c none = record { found = End; sent = noRecord; next = markOf c }
 
 abbrev pub mapBy : List ℕ → Next → List ℕ
 mapBy map (frame m) = mapAfter map (m .reading)

@@ -4,12 +4,12 @@ use mathlib.Core.Path.{_≡_}
 use mathlib.Core.List.{List}
 use Prim.Native.Nat.{ℕ}
 use lib.ListN.{length}
-use Rattle.capture.specs.declared.Point.{Point}
+use Rattle.capture.specs.declared.Mark.{Mark}
 use Rattle.capture.specs.declared.Step.{Step}
-use Rattle.capture.specs.Frames.{nextOf, stepOf, mapBy, tableBy}
+use Rattle.capture.specs.Frames.{Point, nextOf, markOf, stepOf, mapBy, tableBy}
 
--- `advance`, with the map and the table before and after it
-abbrev pub AdvancePromise : List ℕ → Point → List ℕ → List (List ℕ) → Step → List ℕ → List (List ℕ) → Type 0
-AdvancePromise s c map table r map′ table′ =
-    let x = nextOf s (length map) c in
+-- `advance`, with the map and the table before and after it, whatever point the mark is of
+abbrev pub AdvancePromise : List ℕ → Mark → List ℕ → List (List ℕ) → Step → List ℕ → List (List ℕ) → Type 0
+AdvancePromise s mark map table r map′ table′ =
+    (c : Point) → mark ≡ markOf c → let x = nextOf s (length map) c in
     (r ≡ stepOf c x) × (map′ ≡ mapBy map x) × (table′ ≡ tableBy table x)

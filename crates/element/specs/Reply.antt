@@ -7,6 +7,7 @@ use lib.Dec.{eqb, ltb}
 use lib.ListN.{length, drop}
 use Rattle.kernel.specs.Reading.{stop}
 use Rattle.kernel.specs.Element.{Item, Answer, accepted, rejected, read}
+use Rattle.records.specs.declared.Record.{Record}
 use Rattle.records.specs.Blank.{noRecord}
 use Rattle.records.specs.Table.{tableOf}
 use Rattle.element.specs.declared.Held.{Held}
@@ -39,6 +40,16 @@ verdictOf (rejected r its) = Refused (r .refusal)
 abbrev pub heldAfter : Held → Answer Applied → Held
 heldAfter held (accepted a its n) = cond (a .sent) (record { present = true; config = a .config }) held
 heldAfter held (rejected r its) = held
+
+-- the configuration that an accepted element sent, or the blank one
+abbrev pub sentBy : Answer Applied → Record
+sentBy (accepted a its n) = cond (a .sent) (a .config) noRecord
+sentBy (rejected r its) = noRecord
+
+-- what is held afterwards, by the verdict and the configuration sent
+abbrev pub heldBy : Held → Verdict → Record → Held
+heldBy held (Accepted k n sent) r = cond sent (record { present = true; config = r }) held
+heldBy held (Refused x) r = held
 
 abbrev pub replyWith : Held → Answer Applied → Reply
 replyWith held x = record { verdict = verdictOf x; held = heldAfter held x }

@@ -1,6 +1,6 @@
 // One AudioMuxElement: what is held, and what a reading replies.
 ghost use mathlib.Core.Path.{_≡_};
-ghost use Rattle.element.specs.Reply.{nothingHeld};
+ghost use Rattle.element.specs.Reply.{nothingHeld, heldBy};
 use kernel::Refusal;
 use records::Record;
 use records::no_record;
@@ -31,5 +31,23 @@ pub fn nothing_held() -> Held
     Held {
         present: false,
         config: blank,
+    }
+}
+
+// What is held behind an element, by the verdict on it and the configuration that it sent.
+pub fn held_after(held: Held, v: Verdict, sent: Record) -> Held
+    ensures { λ r. ⌜ r ≡ heldBy held v sent ⌝ }
+{
+    match v {
+        Verdict::Accepted(_, _, new) => {
+            if new {
+                return Held {
+                    present: true,
+                    config: sent,
+                };
+            }
+            held
+        }
+        Verdict::Refused(_) => held,
     }
 }

@@ -9,8 +9,8 @@ use Rattle.element.specs.declared.Verdict.{Verdict}
 use Rattle.element.specs.declared.Verdict.the-variants.{Accepted, Refused}
 use Rattle.items.specs.declared.Item.{Item}
 use Rattle.items.specs.Items.{itemAt}
-use Rattle.capture.specs.declared.Point.{Point}
-use Rattle.capture.specs.Frames.{Seen, framesOf, behindAll}
+use Rattle.capture.specs.declared.Mark.{Mark}
+use Rattle.capture.specs.Frames.{Point, Seen, framesOf, behindAll, markOf}
 use Rattle.capture.specs.Blocks as capture
 use Rattle.listing.specs.declared.Block.{Block}
 use Rattle.listing.specs.Listing.{lineOf, letterOf, refusedLine, framed, unchanged}
@@ -42,7 +42,7 @@ module _ (s : List ℕ) (size : ℕ) (c : Point) where
 
   abbrev pub blockOf : Block
   blockOf = record {
-    reached = behindAll c blockFrames;
+    reached = markOf (behindAll c blockFrames);
     bytes = length blockText;
     ended = leb (length blockText + 26208) size;
   }
@@ -51,6 +51,8 @@ module _ (s : List ℕ) (size : ℕ) (c : Point) where
 abbrev pub usable : List ℕ → ℕ
 usable out = min 65536 (length out)
 
--- `lay_block`, with its bytes before and after it
-abbrev pub BlockPromise : List ℕ → Point → List ℕ → Block → List ℕ → Type 0
-BlockPromise s c out r out′ = (r ≡ blockOf s (usable out) c) × Stored out 0 (blockText s (usable out) c) out′ (r .bytes)
+-- `lay_block`, with its bytes before and after it, whatever point the mark is of
+abbrev pub BlockPromise : List ℕ → Mark → List ℕ → Block → List ℕ → Type 0
+BlockPromise s mark out r out′ =
+    (c : Point) → mark ≡ markOf c
+    → (r ≡ blockOf s (usable out) c) × Stored out 0 (blockText s (usable out) c) out′ (r .bytes)

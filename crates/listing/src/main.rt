@@ -3,10 +3,11 @@ ghost use mathlib.Core.Path.{_≡_};
 ghost use Prim.Native.Nat.{_+_, _*_, _≤_};
 ghost use lib.ListN.{length};
 ghost use Rattle.kernel.specs.Lists.{Stored};
+ghost use Rattle.capture.specs.Frames.{OfPoint};
 ghost use Rattle.listing.specs.Listing.{lineOf, letterOf, refusedLine};
 ghost use Rattle.listing.specs.Laid.{lineBy, mapLines, verdictLines, Within, BlockPromise};
 use capture::Found;
-use capture::Point;
+use capture::Mark;
 use capture::advance;
 use capture::block_room;
 use element::Verdict;
@@ -113,7 +114,7 @@ fn lay_verdict(out: &mut [u8], at: usize, number: usize, v: Verdict, map: &[u32]
 
 // Where the listing is come to, the bytes of records laid, and whether no frame is left.
 struct Block {
-    reached: Point,
+    reached: Mark,
     bytes: usize,
     ended: bool,
 }
@@ -122,12 +123,12 @@ struct Block {
 // and table are scratch.
 fn lay_frames(
     capture: &[u8],
-    from: Point,
+    from: Mark,
     map: &mut [u32],
     table: &mut [[u8; 8]; 16],
     out: &mut [u8],
 ) -> Block
-    requires { ⌜ length (now map) ≡ 4368 ⌝ }
+    requires { ⌜ (length (now map) ≡ 4368) × OfPoint from ⌝ }
     ensures block { λ r. ⌜ BlockPromise (now (capture .entry)) from (now (out .entry)) r (now (out .exit)) ⌝ }
     ensures few { λ r. ⌜ r .bytes ≤ length (now (out .entry)) ⌝ }
 {
@@ -155,7 +156,8 @@ fn lay_frames(
 }
 
 // The records of as many frames as a block is sure to have room for, from a place of a capture on.
-fn lay_block(capture: &[u8], from: Point, out: &mut [u8]) -> Block
+fn lay_block(capture: &[u8], from: Mark, out: &mut [u8]) -> Block
+    requires { ⌜ OfPoint from ⌝ }
     ensures block { λ r. ⌜ BlockPromise (now (capture .entry)) from (now (out .entry)) r (now (out .exit)) ⌝ }
     ensures few { λ r. ⌜ r .bytes ≤ length (now (out .entry)) ⌝ }
 {

@@ -10,7 +10,7 @@ use borrow.Author.Tests.{lt-ltb, le-ltb, eq-eqb, ne-eqb}
 use Rattle.kernel.specs.declared.Refusal.{Refusal}
 use Rattle.kernel.specs.declared.Window.the-variants.{Open}
 use Rattle.kernel.specs.Reading.{Stop, Outcome, gave, refused, stop, refusedAt, run, field, Stands}
-use Rattle.kernel.specs.Answer.{told, value, refusal}
+use Rattle.kernel.specs.Answer.{told, value, refusal, unread}
 use Rattle.kernel.specs.Element.{Item, Passage, came, fell, done, fields, item, withItem, next, walk, read, Answer}
 use Rattle.kernel.specs.Element.{accepted, rejected, ended}
 use Rattle.kernel.proofs.Chain.{Comes, apart, gave-told, on, off, holds, fails, gives, steady}
@@ -26,15 +26,18 @@ use Rattle.config.proofs.Given.{ReadOk, mux}
 use Rattle.element.specs.declared.Held.{Held}
 use Rattle.element.specs.declared.Verdict.{Verdict}
 use Rattle.element.specs.declared.Verdict.the-variants.{Accepted, Refused}
-use Rattle.element.specs.declared.Reply.{Reply}
 use Rattle.element.specs.Mux.{kindU, kindC, Applied, body, applied, usable, useSameStreamMux, sentElement, afterFlag}
 use Rattle.element.specs.Mux.{audioMuxElement}
-use Rattle.element.specs.Reply.{answer, numbers, verdictOf, mapAfter, tableAfter, replyWith}
+use Rattle.element.specs.Reply.{answer, numbers, verdictOf, mapAfter}
 use Rattle.walk.specs.Parts.{fronted, verdictFrom, mapFrom}
 use Rattle.walk.specs.declared.Plan.{Plan}
 use Rattle.walk.specs.Promises.{FinishPromise}
+use Rattle.reader.specs.declared.Prepared.{Prepared}
+use Rattle.reader.specs.declared.PreparedReply.{PreparedReply}
 use Rattle.reader.specs.Parts.{planOf, behindOf, sentOf}
+use Rattle.reader.specs.Prepared.{preparedOf, unsentReply, Leaves}
 use Rattle.reader.proofs.Plans.{plan-is}
+use Rattle.reader.proofs.Preparing.{prepared-usable, held-valid, held-plan}
 
 -- a passage with the configuration that applied for its answer
 abbrev with : Applied → Passage Unit → Passage Applied
@@ -118,35 +121,9 @@ module _ (s : List ℕ) (r : Record) (at n : ℕ) where
       (at-the-end P (record { sent = sent; config = r }) f g (8 * length s)
       (fronted sent at (walk s (body r) at n)))
 
-  -- what is left behind where the configuration was held,
-  pub behind-kept : (held : Held) (table : List (List ℕ)) {v : Verdict} → v ≡ verdictOf (behindOf s r false at n)
-      → (_≡_ {A = Reply} (record { verdict = v; held = held }) (replyWith held (behindOf s r false at n)))
-      × (table ≡ tableAfter table (behindOf s r false at n))
-  behind-kept held table e =
-      rw e (behind-ends
-      (λ y. (_≡_ {A = Reply} (record { verdict = verdictOf y; held = held }) (replyWith held y))
-      × (table ≡ tableAfter table y)) false
-      (λ its k. (refl, refl)) (λ z its. (refl, refl)))
-
-  -- and where it was sent: accepted, it is held with its table; refused, all is as it stood
-  abbrev Leaves : Held → List (List ℕ) → Verdict → Answer Applied → Type 0
-  Leaves held table (Accepted k m sent) y =
-      let kept : Held = record { present = true; config = r } in
-      (_≡_ {A = Reply} (record { verdict = Accepted k m sent; held = kept }) (replyWith held y))
-      × (tableOf (r .layers) (r .programs) ≡ tableAfter table y)
-  Leaves held table (Refused x) y =
-      (_≡_ {A = Reply} (record { verdict = Refused x; held = held }) (replyWith held y)) × (table ≡ tableAfter table y)
-
-  pub behind-sent : (held : Held) (table : List (List ℕ)) {v : Verdict} → v ≡ verdictOf (behindOf s r true at n)
-      → Leaves held table v (behindOf s r true at n)
-  behind-sent held table e =
-      rw e (behind-ends (λ y. Leaves held table (verdictOf y) y) true (λ its k. (refl, refl)) (λ z its. (refl, refl)))
-
 -- the answer y is refusal x, so that all that was held or lent is as it was
-abbrev Unchanged : Refusal → Held → List ℕ → List (List ℕ) → Answer Applied → Type 0
-Unchanged x held map table y =
-    (_≡_ {A = Reply} (record { verdict = Refused x; held = held }) (replyWith held y))
-    × ((map ≡ mapAfter map y) × (table ≡ tableAfter table y))
+abbrev Unchanged : Refusal → Prepared → List ℕ → List (List ℕ) → Answer Applied → Type 0
+Unchanged x p map table y = Leaves p y map table (unsentReply (Refused x) p) map table
 
 -- a configuration stands behind the flag
 module _ (s : List ℕ) (at n : ℕ) where
@@ -171,39 +148,64 @@ module _ (s : List ℕ) (at n : ℕ) where
       → Stands s at′ n′
   sent-steady e h = steady {m = streamMuxConfig} (record { is = e }) h
 
-  pub sent-refused : (held : Held) (map : List ℕ) (table : List (List ℕ)) (x : Refusal)
+  pub sent-refused : (p : Prepared) (map : List ℕ) (table : List (List ℕ)) (x : Refusal)
       → told (run s streamMuxConfig at n) ≡ refusal x
-      → Unchanged x held map table (sentOf s at n)
+      → Unchanged x p map table (sentOf s at n)
   unfolding sentOf walk next withItem
-  sent-refused held map table x = go (run s streamMuxConfig at n)
+  sent-refused p map table x = go (run s streamMuxConfig at n)
     where
       all : Outcome Record → Answer Applied
       all o =
           ended (8 * length s) (withItem (item fields kindU 0 0 1)
           (next kindC at o (λ r at′ n′. walk s (applied (record { sent = true; config = r })) at′ n′)))
 
-      go : (o : Outcome Record) → told o ≡ refusal x → Unchanged x held map table (all o)
+      go : (o : Outcome Record) → told o ≡ refusal x → Unchanged x p map table (all o)
       go (gave r at′ n′) e = absurd (apart (sym e))
       go (refused r) e =
           let q : x ≡ r .refusal = cc in
-          (ap (λ (z : Refusal). record { verdict = Refused z; held = held }) q, (refl, refl))
+          (ap (λ (z : Refusal). unsentReply (Refused z) p) q, refl, refl)
+
+  -- accepted, the configuration is held with its table; refused, all is as it stood
+  module _ (p : Prepared) (map : List ℕ) (table : List (List ℕ)) where
+    abbrev Left : Record → Plan → List ℕ → Answer Applied → Verdict → Type 0
+    Left r plan map′ y (Accepted k m sent) =
+        Leaves p y map table
+        (record { verdict = Accepted k m sent; sent = r; prepared = record { usable = true; plan = plan } })
+        map′ (tableOf (r .layers) (r .programs))
+    Left r plan map′ y (Refused x) = Leaves p y map table (unsentReply (Refused x) p) map′ table
+
+    pub sent-leaves : (r : Record) (at′ n′ : ℕ) → at ≡ 1 → told (run s streamMuxConfig at n) ≡ value r at′ n′
+        → (plan : Plan) → plan ≡ planOf r → {v : Verdict} {map′ : List ℕ} → FinishPromise true s plan at′ n′ map v map′
+        → Left r plan map′ (sentOf s at n) v
+    sent-leaves r at′ n′ h e plan q f =
+        let ok = sent-valid e in
+        let b = behind-is s r at′ n′ true ok plan q map f in
+        rw (sent-done r at′ n′ h e, b .0, b .1, q)
+        (behind-ends s r at′ n′ (λ y. Left r (planOf r) (mapAfter map y) y (verdictOf y)) true
+        (λ its k. (
+          ap (λ (z : Prepared). record { verdict = Accepted (length its) k true; sent = r; prepared = z })
+              (sym (prepared-usable (record { present = true; config = r }) ok)),
+          refl,
+          refl,
+        ))
+        (λ z its. (refl, refl, refl)))
 
 -- by the flag
 module _ (s : List ℕ) (held : Held) where
-  pub flag-refused : (map : List ℕ) (table : List (List ℕ)) (x : Refusal)
+  pub flag-refused : (p : Prepared) (map : List ℕ) (table : List (List ℕ)) (x : Refusal)
       → told (run s (useSameStreamMux (usable held)) 0 0) ≡ refusal x
-      → Unchanged x held map table (read s (audioMuxElement held))
+      → Unchanged x p map table (read s (audioMuxElement held))
   unfolding audioMuxElement walk next
-  flag-refused map table x = go (run s (useSameStreamMux (usable held)) 0 0)
+  flag-refused p map table x = go (run s (useSameStreamMux (usable held)) 0 0)
     where
       all : Outcome ℕ → Answer Applied
       all o = ended (8 * length s) (next kindU 0 o (λ u at′ n′. walk s (afterFlag (eqb u 1) (held .config)) at′ n′))
 
-      go : (o : Outcome ℕ) → told o ≡ refusal x → Unchanged x held map table (all o)
+      go : (o : Outcome ℕ) → told o ≡ refusal x → Unchanged x p map table (all o)
       go (gave u at′ n′) e = absurd (apart (sym e))
       go (refused r) e =
           let q : x ≡ r .refusal = cc in
-          (ap (λ (z : Refusal). record { verdict = Refused z; held = held }) q, (refl, refl))
+          (ap (λ (z : Refusal). unsentReply (Refused z) p) q, refl, refl)
 
   pub flag-sent : (at n : ℕ) → at ≡ 1 → told (run s (useSameStreamMux (usable held)) 0 0) ≡ value 0 at n
       → read s (audioMuxElement held) ≡ sentOf s at n
@@ -224,6 +226,18 @@ module _ (s : List ℕ) (held : Held) where
       (gave-told (run s (useSameStreamMux (usable held)) 0 0) e)
       ∙ ap (λ (p : ℕ). withItem (item fields kindU 0 0 p)
       (walk s (applied (record { sent = false; config = held .config })) at n)) (let q : at - 0 ≡ 1 = omega arith in q))
+
+  -- the held configuration applies
+  pub held-leaves : (p : Prepared) → p ≡ preparedOf held → p .usable ≡ true → (map : List ℕ) (table : List (List ℕ))
+      (at n : ℕ) → at ≡ 1 → told (run s (useSameStreamMux (usable held)) 0 0) ≡ value 1 at n
+      → {v : Verdict} {map′ : List ℕ} → FinishPromise false s (p .plan) at n map v map′
+      → Leaves p (read s (audioMuxElement held)) map table (unsentReply v p) map′ table
+  held-leaves p is u map table at n h e f =
+      let b = behind-is s (held .config) at n false (held-valid held is u) (p .plan) (held-plan held is u) map f in
+      rw (flag-held at n h e, b .0, b .1)
+      (behind-ends s (held .config) at n
+      (λ y. Leaves p y map table (unsentReply (verdictOf y) p) (mapAfter map y) table) false
+      (λ its k. (refl, refl, refl)) (λ z its. (refl, refl, refl)))
 
 -- what useSameStreamMux comes to
 module _ {s : List ℕ} where
@@ -247,7 +261,12 @@ module _ {s : List ℕ} where
   unfolding useSameStreamMux
   flag-unheld h q l e = on _ e (fails _ {p = 0} 1 q l) .is
 
--- before any field
+-- before any field a refusal leaves all as it was
+pub early : (m : ℕ) {p : Prepared} {map : List ℕ} {table : List (List ℕ)} {x : Refusal} {r : PreparedReply}
+    {y : Answer Applied} → r ≡ unsentReply (Refused x) p → x ≡ unread m → y ≡ rejected (stop m 0 0 0) []
+    → Leaves p y map table r map table
+early m {p} e f q = rw q (e ∙ ap (λ (z : Refusal). unsentReply (Refused z) p) f, refl, refl)
+
 module _ (s : List ℕ) (held : Held) (room : ℕ) where
   pub map-small : room < 4368 → answer s held room ≡ rejected (stop 1 0 0 0) []
   unfolding answer

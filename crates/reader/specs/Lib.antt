@@ -1,2 +1,3 @@
--- What inner functions promise.
+-- What inner functions promise, and what `read_prepared` does.
 pub mod Parts
+pub mod Prepared

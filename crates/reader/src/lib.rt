@@ -5,18 +5,18 @@ ghost use mathlib.Core.List.{_++_, map};
 ghost use Prim.Native.Nat.{_-_, _≤_};
 ghost use lib.ListN.{length, take, replicate};
 ghost use Rattle.kernel.specs.Reading.{Stands};
-ghost use Rattle.kernel.specs.Answer.{unread};
 ghost use Rattle.kernel.specs.Element.{read};
 ghost use Rattle.records.specs.Valid.{validOf};
-ghost use Rattle.element.specs.declared.Verdict.the-variants.{Refused};
 ghost use Rattle.element.specs.Mux.{audioMuxElement};
-ghost use Rattle.element.specs.Reply.{mapAfter, tableAfter, replyWith};
 ghost use Rattle.element.specs.Promises.{ReadPromise, ReadWithPromise};
 ghost use Rattle.reader.specs.Parts.{fixedBits, fixedOf, Fixable, planOf, sentOf};
+ghost use Rattle.reader.specs.Prepared.{noPlan, preparedOf, OfHeld, unsentReply, Leaves};
+ghost use Rattle.reader.specs.Prepared.{LeavesBy, PreparedPromise};
 use config_reader::stream_mux_config;
 use element::Held;
 use element::Reply;
 use element::Verdict;
+use element::held_after;
 use kernel::Cursor;
 use kernel::Fetched;
 use kernel::Reached;
@@ -27,10 +27,25 @@ use kernel::unread;
 use kernel::why;
 use records::Record;
 use records::Stream;
+use records::no_record;
 use records::streams_in;
 use records::valid;
 use walk::Plan;
 use walk::finish;
+
+// What readings need of what is held: whether it can be used, and its plan, or else one of nothing.
+pub struct Prepared {
+    pub usable: bool,
+    pub plan: Plan,
+}
+
+// The verdict, the configuration that was sent where it was accepted, or else the blank one, and what is then held,
+// prepared.
+pub struct PreparedReply {
+    pub verdict: Verdict,
+    pub sent: Record,
+    pub prepared: Prepared,
+}
 
 // A held record that is not valid counts as nothing held.
 fn usable_held(present: bool, config: Record) -> bool
@@ -86,14 +101,59 @@ fn plan_of(r: Record) -> Plan
     }
 }
 
+fn no_plan() -> Plan
+    ensures { λ p. ⌜ p ≡ noPlan ⌝ }
+{
+    Plan {
+        slots: [0; 16],
+        streams: 0,
+        subframes: 0,
+        other: false,
+        bits: 0,
+    }
+}
+
+// What is held, prepared for readings.
+pub fn prepare(held: Held) -> Prepared
+    ensures { λ r. ⌜ r ≡ preparedOf held ⌝ }
+{
+    if usable_held(held.present, held.config) {
+        let plan = plan_of(held.config);
+        return Prepared {
+            usable: true,
+            plan: plan,
+        };
+    }
+    let plan = no_plan();
+    Prepared {
+        usable: false,
+        plan: plan,
+    }
+}
+
+// Where nothing was sent.
+fn unsent(v: Verdict, prepared: Prepared) -> PreparedReply
+    ensures { λ r. ⌜ r ≡ unsentReply v prepared ⌝ }
+{
+    let blank = no_record();
+    PreparedReply {
+        verdict: v,
+        sent: blank,
+        prepared: prepared,
+    }
+}
+
 // Behind useSameStreamMux 0. An accepted configuration is held from then on, and the caller gets its table.
-fn with_sent(el: &[u8], held: Held, c: Cursor, map: &mut [u32], table: &mut [[u8; 8]; 16]) -> Reply
+fn with_sent(
+    el: &[u8],
+    prepared: Prepared,
+    c: Cursor,
+    map: &mut [u32],
+    table: &mut [[u8; 8]; 16],
+) -> PreparedReply
     requires { ⌜ (4368 ≤ length (now map)) × (c .at ≡ 1) × Stands (now el) (c .at) (c .fields) ⌝ }
-    ensures reply { λ r. ⌜ r ≡ replyWith held (sentOf (now (el .entry)) (c .at) (c .fields)) ⌝ }
-    ensures map { λ r. ⌜ now (map .exit)
-        ≡ mapAfter (now (map .entry)) (sentOf (now (el .entry)) (c .at) (c .fields)) ⌝ }
-    ensures table { λ r. ⌜ now (table .exit)
-        ≡ tableAfter (now (table .entry)) (sentOf (now (el .entry)) (c .at) (c .fields)) ⌝ }
+    ensures { λ r. ⌜ Leaves prepared (sentOf (now (el .entry)) (c .at) (c .fields))
+        (now (map .entry)) (now (table .entry)) r (now (map .exit)) (now (table .exit)) ⌝ }
 {
     let none = [255; 8];
     let mut filled = [none; 16];
@@ -101,12 +161,7 @@ fn with_sent(el: &[u8], held: Held, c: Cursor, map: &mut [u32], table: &mut [[u8
     let reached = mux.reached;
     let c1 = match reached {
         Reached::To(to) => to,
-        Reached::Refused(x) => {
-            return Reply {
-                verdict: Verdict::Refused(x),
-                held: held,
-            };
-        }
+        Reached::Refused(x) => return unsent(Verdict::Refused(x), prepared),
     };
     let r = mux.held;
     let plan = plan_of(r);
@@ -114,84 +169,86 @@ fn with_sent(el: &[u8], held: Held, c: Cursor, map: &mut [u32], table: &mut [[u8
     match verdict {
         Verdict::Accepted(_, _, _) => {
             *table = filled;
-            Reply {
+            PreparedReply {
                 verdict: verdict,
-                held: Held {
-                    present: true,
-                    config: r,
+                sent: r,
+                prepared: Prepared {
+                    usable: true,
+                    plan: plan,
                 },
             }
         }
-        Verdict::Refused(_) => Reply {
-            verdict: verdict,
-            held: held,
-        },
+        Verdict::Refused(_) => unsent(verdict, prepared),
     }
 }
 
 // An element of a length that can be, into a map with room for every item.
-fn element_of(el: &[u8], held: Held, map: &mut [u32], table: &mut [[u8; 8]; 16]) -> Reply
-    requires { ⌜ (4368 ≤ length (now map)) × (length (now el) ≤ 8191) ⌝ }
-    ensures reply { λ r. ⌜ r ≡ replyWith held (read (now (el .entry)) (audioMuxElement held)) ⌝ }
-    ensures map { λ r. ⌜ now (map .exit)
-        ≡ mapAfter (now (map .entry)) (read (now (el .entry)) (audioMuxElement held)) ⌝ }
-    ensures table { λ r. ⌜ now (table .exit)
-        ≡ tableAfter (now (table .entry)) (read (now (el .entry)) (audioMuxElement held)) ⌝ }
+fn element_of(
+    el: &[u8],
+    prepared: Prepared,
+    map: &mut [u32],
+    table: &mut [[u8; 8]; 16],
+) -> PreparedReply
+    requires { ⌜ (4368 ≤ length (now map)) × (length (now el) ≤ 8191) × OfHeld prepared ⌝ }
+    ensures { λ r. ⌜ LeavesBy prepared (λ held. read (now (el .entry)) (audioMuxElement held))
+        (now (map .entry)) (now (table .entry)) r (now (map .exit)) (now (table .exit)) ⌝ }
 {
     let flag = fetch(el, Window::Open, Cursor { at: 0, fields: 0 }, 1);
     let Fetched::Value(u, c) = flag else {
         let x = why(flag);
-        return Reply {
-            verdict: Verdict::Refused(x),
-            held: held,
-        };
+        return unsent(Verdict::Refused(x), prepared);
     };
     if u == 0 {
-        return with_sent(el, held, c, map, table);
+        return with_sent(el, prepared, c, map, table);
     }
-    if usable_held(held.present, held.config) {
-        let plan = plan_of(held.config);
+    if prepared.usable {
+        let plan = prepared.plan;
         let verdict = finish(el, plan, false, c, map);
-        return Reply {
-            verdict: verdict,
-            held: held,
-        };
+        return unsent(verdict, prepared);
     }
     let x = refused_at(4, 0, c);
-    Reply {
-        verdict: Verdict::Refused(x),
-        held: held,
-    }
+    unsent(Verdict::Refused(x), prepared)
 }
 
-// Refused before any field.
-fn refused_unread(number: usize, held: Held) -> Reply
-    ensures { λ r. ⌜ r ≡ record { verdict = Refused (unread number); held = held } ⌝ }
+// One element, by what was prepared of the configuration held before it; its items are stored into the map lent, four
+// numbers each, and the streams of an accepted configuration into the table lent.
+pub fn read_prepared(
+    el: &[u8],
+    prepared: Prepared,
+    map: &mut [u32],
+    table: &mut [[u8; 8]; 16],
+) -> PreparedReply
+    requires { ⌜ OfHeld prepared ⌝ }
+    ensures { λ r. ⌜ PreparedPromise (now (el .entry)) prepared (now (map .entry)) (now (table .entry))
+        r (now (map .exit)) (now (table .exit)) ⌝ }
 {
-    let x = unread(number);
-    Reply {
-        verdict: Verdict::Refused(x),
-        held: held,
+    if map.len() < 4368 {
+        return unsent(Verdict::Refused(unread(1)), prepared);
     }
+    let length = el.len();
+    if length == 0 {
+        return unsent(Verdict::Refused(unread(2)), prepared);
+    }
+    if length > 8191 {
+        return unsent(Verdict::Refused(unread(2)), prepared);
+    }
+    element_of(el, prepared, map, table)
 }
 
-// One element, with the configuration held before it; its items are stored into the map lent, four numbers each, and
-// the streams of an accepted configuration into the table lent.
+// The same with the configuration itself, any record at all.
 pub fn read_with(el: &[u8], held: Held, map: &mut [u32], table: &mut [[u8; 8]; 16]) -> Reply
     ensures { λ r. ⌜ ReadWithPromise (now (el .entry)) held (now (map .entry)) (now (table .entry))
         r (now (map .exit)) (now (table .exit)) ⌝ }
 {
-    if map.len() < 4368 {
-        return refused_unread(1, held);
+    let prepared = prepare(held);
+    let reply = read_prepared(el, prepared, map, table);
+    let verdict = reply.verdict;
+    let sent = reply.sent;
+    let after = held_after(held, verdict, sent);
+    Reply {
+        verdict: verdict,
+        held: after,
     }
-    let length = el.len();
-    if length == 0 {
-        return refused_unread(2, held);
-    }
-    if length > 8191 {
-        return refused_unread(2, held);
-    }
-    element_of(el, held, map, table)
 }
 
 // The same, for callers without rows to show.

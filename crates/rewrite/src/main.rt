@@ -5,6 +5,8 @@ ghost use lib.ListN.{length};
 use capture::Found;
 use capture::advance;
 use element::Verdict;
+use element::held_after;
+use element::nothing_held;
 use items::Item;
 use items::copy_item;
 use items::item_at;
@@ -181,16 +183,19 @@ fn all(
         × (length (now other) ≡ 8192) × (length (now out) ≡ 8192) × (length (now frame) ≡ 8200) ⌝ }
 {
     let mut reached = capture::start();
+    let mut held = nothing_held();
     loop {
         let step = advance(capture, reached, map, table);
         let found = step.found;
         let Found::Frame(p, n, v) = found else {
             return;
         };
-        let next = step.next;
-        let held = next.held;
+        let sent = step.sent;
+        let after = held_after(held, v, sent);
+        held = after;
         let el = element_at(capture, p, n);
         one(el, v, held.config, map, lengths, payload, other, out, frame);
+        let next = step.next;
         reached = next;
     }
 }

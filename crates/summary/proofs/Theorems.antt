@@ -24,8 +24,7 @@ use Rattle.element.specs.Reply.{answer}
 use Rattle.sync.specs.Sync.{firstOf}
 use Rattle.text.specs.Text.{figures}
 use Rattle.summary_lines.specs.Lines.{layersText, programsText}
-use Rattle.capture.specs.declared.Point.{Point}
-use Rattle.capture.specs.Frames.{Seen, start, behind, behindAll, framesFrom, framesOf}
+use Rattle.capture.specs.Frames.{Point, Seen, start, behind, behindAll, framesFrom, framesOf}
 use Rattle.capture.specs.Blocks.{textOf}
 use Rattle.capture.proofs.Theorems.{blocks-are-whole}
 use Rattle.summary.specs.Summary.{framed, saidThen}

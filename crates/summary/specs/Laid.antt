@@ -1,5 +1,5 @@
--- What the functions below the summary promise: the same lines, from a verdict, and the record and the table that the
--- reading left; in blocks.
+-- What the functions below the summary promise: the same lines, from a verdict, and the record that was sent and the
+-- table that the reading left; in blocks.
 use mathlib.Core.Path.{_≡_}
 use mathlib.Core.Bool.{Bool, cond, _||_}
 use mathlib.Core.List.{List, []}
@@ -12,8 +12,7 @@ use Rattle.element.specs.declared.Held.{Held}
 use Rattle.element.specs.declared.Verdict.{Verdict}
 use Rattle.element.specs.declared.Verdict.the-variants.{Accepted, Refused}
 use Rattle.summary_lines.specs.Lines.{programsText}
-use Rattle.capture.specs.declared.Point.{Point}
-use Rattle.capture.specs.Frames.{Seen, framesOf, behindAll}
+use Rattle.capture.specs.Frames.{Point, Seen, framesOf, behindAll, markOf}
 use Rattle.capture.specs.Blocks as capture
 use Rattle.summary.specs.declared.Block.{Block}
 use Rattle.summary.specs.Summary.{changes, firstWanting, refusalText, framed, saidThen}
@@ -39,7 +38,8 @@ module _ (s : List ℕ) (size : ℕ) (c : Point) (said : Bool) where
 
   abbrev pub blockOf : Block
   blockOf = record {
-    reached = behindAll c blockFrames;
+    reached = markOf (behindAll c blockFrames);
+    held = behindAll c blockFrames .held;
     said = capture.afterAll framed saidThen said blockFrames;
     bytes = length blockText;
     ended = leb (length blockText + 14336) size;

@@ -5,35 +5,64 @@ use native.Mathlib.Omega.{arith}
 use lib.ListN.{length}
 use borrow.Author.Tests.{le-leb, lt-leb}
 use borrow.Author.Needs.{needs}
-use Rattle.capture.proofs.Frames.{next-inside}
-use Rattle.capture.proofs.Steps.{took, took-none}
-use Rattle.capture.proofs.Blocks.{Left, left-all, left-on, left-none, left-full}
+use Rattle.capture.specs.Frames.{Point, behind, markOf}
+use Rattle.capture.proofs.Steps.{Took, took, took-none, took-further}
+use Rattle.capture.proofs.Blocks.{left-all, left-on, left-none, left-full}
 use Rattle.listing.specs.Listing.{framed, unchanged}
-use Rattle.listing.proofs.Blocks.{within, laid-frame, block-laid}
+use Rattle.listing.proofs.Blocks.{within, laid-frame, Going, block-laid}
 use Rattle.listing.proofs.lay_frames.Statement.{statement}
 use Rattle.listing.proofs.lay_frames.Tie as tie
 
 abbrev Inv-loop : tie.InvT-loop
 Inv-loop capture map₀ table₀ out₀ room reached₀ used₀ map table out reached used =
     (length map ≡ 4368) × (length out ≡ length out₀) × (used ≤ room)
-    × Left framed unchanged 26208 room capture 4368 out₀ tt reached₀ out used tt reached
+    × ((c : Point) → reached₀ ≡ markOf c → Going capture room out₀ c out used reached)
 
 abbrev μ-loop : tie.MeasureT-loop
 μ-loop capture map₀ table₀ out₀ room reached₀ used₀ map table out reached used = length capture - reached .at
 
+-- the point come to, from one that the mark lent is of
+going : (l : tie.At-loop Inv-loop μ-loop) → let b = l .before in let s = b .before .before .before .before in
+    Going (s .args .capture .now) (b .block-room .result) (s .args .out .now) (s .pre .1 .point) (l .loop .out)
+    (l .loop .used) (l .loop .reached)
+going l =
+    let o = l .before .before .before .before .before .pre .1 in
+    l .loop .inv .3 (o .point) (o .is)
+
+-- the frame that a turn took, from any point that the loop may have come to
+taken : (f : tie.After-found Inv-loop μ-loop) → let a = f .before .before .before .before in
+    let l = a .before .before .before .before in let s = l .before .before .before .before .before .args .capture .now in
+    (c : Point) → l .loop .reached ≡ markOf c
+    → Took s 4368 c (l .loop .map) (a .advance .last .1 .1 .0) (l .loop .table) (a .advance .last .1 .1 .1 .0)
+    (f .found .given .0 .1 .1 .0) (a .advance .result .sent) (a .advance .result .next)
+taken f c mark =
+    let a = f .before .before .before .before in
+    let l = a .before .before .before .before in
+    took _ 4368 c (l .loop .map) (l .loop .table) mark (a .advance .ensures) (l .loop .inv .0) _ _ _ (f .found .given .1)
+
 loop-holds : tie.Need-loop-holds Inv-loop μ-loop
-loop-holds c = (search needs, search needs, search needs, left-all framed unchanged 26208 _ _ 4368)
+loop-holds c = (
+  search needs,
+  search needs,
+  search needs,
+  λ p mark. record { point = p; mark = mark; left = left-all framed unchanged 26208 _ _ 4368 },
+)
+
+advance-requires : tie.Need-advance-requires Inv-loop μ-loop
+advance-requires c κs = let g = going (c .before .before .before) in record { point = g .point; is = g .mark }
 
 returns : tie.Need-returns Inv-loop μ-loop
 returns c =
     let a = c .before .before .before .before in
     let l = a .before .before .before .before in
     let s = l .before .before .before .before .before .args .capture .now in
-    let e = took-none s 4368 (l .loop .reached) (l .loop .map) (l .loop .table) (a .advance .ensures) (l .loop .inv .0)
-    (c .enum-told .given .1) in
     let h : l .loop .used + 26208 ≤ l .before .block-room .result =
     omega (arith, a .before .before .before .loop-test .taken) in (
-      block-laid _ (left-none framed unchanged 26208 _ s 4368 (l .loop .inv .3) e) (l .before .block-room .ensures)
+      λ p mark.
+          let g = l .loop .inv .3 p mark in
+          let e = took-none s 4368 (g .point) (l .loop .map) (l .loop .table) (g .mark) (a .advance .ensures)
+          (l .loop .inv .0) (c .enum-told .given .1) in
+          block-laid _ (g .mark) (left-none framed unchanged 26208 _ s 4368 (g .left) e) (l .before .block-room .ensures)
           (le-leb _ _ h),
       omega (arith, l .loop .inv .2, l .before .block-room .ensures),
     )
@@ -43,21 +72,16 @@ lay-verdict-requires c κs =
     let f = c .before .before .before in
     let a = f .before .before .before .before in
     let l = a .before .before .before .before in
-    let s = l .before .before .before .before .before .args .capture .now in
-    let t = took s 4368 (l .loop .reached) (l .loop .map) (l .loop .table) (a .advance .ensures)
-    (l .loop .inv .0) _ _ _ (f .found .given .1) in
-    (omega (arith, l .loop .inv .2), within t (l .loop .inv .0) (a .advance .kept .1 .1 .0))
+    let g = going l in
+    (omega (arith, l .loop .inv .2), within (taken f (g .point) (g .mark)) (l .loop .inv .0) (a .advance .kept .1 .1 .0))
 
 loop-less : tie.Need-loop-less Inv-loop μ-loop
 loop-less c =
     let f = c .before .before .before .before .before .before .before in
-    let a = f .before .before .before .before in
-    let l = a .before .before .before .before in
+    let l = f .before .before .before .before .before .before .before .before in
     let s = l .before .before .before .before .before .args .capture .now in
-    let t = took s 4368 (l .loop .reached) (l .loop .map) (l .loop .table) (a .advance .ensures)
-    (l .loop .inv .0) _ _ _ (f .found .given .1) in
-    let i = next-inside s 4368 (l .loop .reached) (t .seen) (t .is) in
-    rw (t .then) (omega (arith, i))
+    let g = going l in
+    omega (arith, took-further s 4368 (g .point) (g .mark) (taken f (g .point) (g .mark)))
 
 loop-again : tie.Need-loop-again Inv-loop μ-loop
 loop-again c =
@@ -65,17 +89,21 @@ loop-again c =
     let a = f .before .before .before .before in
     let l = a .before .before .before .before in
     let s = l .before .before .before .before .before .args .capture .now in
-    let t = took s 4368 (l .loop .reached) (l .loop .map) (l .loop .table) (a .advance .ensures)
-    (l .loop .inv .0) _ _ _ (f .found .given .1) in
     let n = c .before .before .before .lay-verdict .ensures in
     let h : l .loop .used + 26208 ≤ l .before .block-room .result =
     omega (arith, a .before .before .before .loop-test .taken) in (
       search needs,
       search needs,
       omega (arith, n .0, h),
-      rw (t .then)
-          (left-on framed unchanged 26208 _ s 4368 (t .seen) (l .loop .inv .3) (t .is) (le-leb _ _ h)
-          (laid-frame t (n .1))),
+      λ p mark.
+          let g = l .loop .inv .3 p mark in
+          let t = taken f (g .point) (g .mark) in
+          record {
+            point = behind (t .seen);
+            mark = t .then;
+            left = left-on framed unchanged 26208 _ s 4368 (t .seen) (g .left) (t .is) (le-leb _ _ h)
+                (laid-frame t (g .mark) (n .1));
+          },
     )
 
 returns-2 : tie.Need-returns-2 Inv-loop μ-loop
@@ -83,7 +111,9 @@ returns-2 c =
     let l = c .before in
     let s = l .before .before .before .before .before .args .capture .now in
     let h : l .before .block-room .result < l .loop .used + 26208 = omega (arith, c .loop-test .left) in (
-      block-laid _ (left-full framed unchanged 26208 _ s 4368 (l .loop .inv .3) (lt-leb _ _ h))
+      λ p mark.
+          let g = l .loop .inv .3 p mark in
+          block-laid _ (g .mark) (left-full framed unchanged 26208 _ s 4368 (g .left) (lt-leb _ _ h))
           (l .before .block-room .ensures) (lt-leb _ _ h),
       omega (arith, l .loop .inv .2, l .before .block-room .ensures),
     )
@@ -91,6 +121,6 @@ returns-2 c =
 pub lay-frames-spec : {M : Type 1} → statement M
 lay-frames-spec =
     tie.close
-    (tie.spec Inv-loop μ-loop (λ c κs. search needs) loop-holds (λ c. search needs) (λ c κs. search needs)
+    (tie.spec Inv-loop μ-loop (λ c κs. search needs) loop-holds (λ c. search needs) advance-requires
     (λ c. search needs) (λ c. search needs) (λ c. search needs) (λ c. search needs) returns lay-verdict-requires
     loop-less loop-again (λ c. search needs) (λ c. search needs) returns-2)

@@ -1,21 +1,25 @@
 -- `listing::list` meets its contract.
 use mathlib.Core.Path.{_≡_}
+use Prim.Native.Nat.{_-_}
 use native.Mathlib.Omega.{arith}
 use lib.ListN.{length, length-take}
 use borrow.Author.Needs.{needs}
-use Rattle.capture.specs.Frames.{framesOf}
-use Rattle.listing.proofs.Blocks.{block-on}
+use Rattle.capture.specs.Frames.{OfPoint}
+use Rattle.listing.proofs.Blocks.{block-of, block-on}
 use Rattle.listing.proofs.list.Statement.{statement}
 use Rattle.listing.proofs.list.Tie as tie
 
 abbrev Inv-loop : tie.InvT-loop
-Inv-loop capture out₀ reached₀ out reached = length out ≡ 65536
+Inv-loop capture out₀ reached₀ out reached = (length out ≡ 65536) × OfPoint reached
 
 abbrev μ-loop : tie.MeasureT-loop
-μ-loop capture out₀ reached₀ out reached = length (framesOf capture 4368 reached)
+μ-loop capture out₀ reached₀ out reached = length capture - reached .at
 
 loop-holds : tie.Need-loop-holds Inv-loop μ-loop
-loop-holds c = search needs
+loop-holds c = (search needs, record { point = _; is = c .start .ensures })
+
+lay-block-requires : tie.Need-lay-block-requires Inv-loop μ-loop
+lay-block-requires c κs = c .before .loop .inv .1
 
 slice-aggregate-write-all : tie.Need-slice-aggregate-write-all Inv-loop μ-loop
 slice-aggregate-write-all c = simp length-take (omega (arith, c .before .before .before .lay-block .ensures .1))
@@ -28,13 +32,21 @@ loop-less c =
     let b = c .before .before .before .before .before .before in
     let l = b .before .before in
     let s = l .before .before .before .before .args .capture .now in
-    block-on s (l .loop .out) (l .loop .reached) (b .lay-block .ensures .0) (l .loop .inv) (c .before .if1 .left)
+    omega (
+      arith,
+      block-on s (l .loop .out) (l .loop .inv .1) (b .lay-block .ensures .0) (l .loop .inv .0)
+          (c .before .if1 .left),
+    )
 
 loop-again : tie.Need-loop-again Inv-loop μ-loop
-loop-again c = search needs
+loop-again c =
+    let b = c .before .before .before .before .before .before in
+    let l = b .before .before in
+    let s = l .before .before .before .before .args .capture .now in
+    (search needs, block-of s (l .loop .out) (l .loop .inv .1) (b .lay-block .ensures .0))
 
 pub list-spec : {M : Type 1} → statement M
 list-spec =
     tie.close
-    (tie.spec Inv-loop μ-loop (λ c κs. search needs) loop-holds (λ c κs. search needs) (λ c. search needs)
+    (tie.spec Inv-loop μ-loop (λ c κs. search needs) loop-holds lay-block-requires (λ c. search needs)
     slice-aggregate-write-all (λ c κs. search needs) (λ c. search needs) returns loop-less loop-again)

@@ -7,10 +7,9 @@ use Rattle.kernel.specs.Answer.{value, told, toldWith}
 use Rattle.kernel.specs.Reading.{run}
 use Rattle.config.specs.Mux.{streamMuxConfig}
 use Rattle.element.specs.declared.Verdict.{Verdict}
-use Rattle.element.specs.Reply.{mapAfter, tableAfter, replyWith}
+use Rattle.reader.specs.Prepared.{unsentReply}
 use Rattle.reader.proofs.Plans.{plan-fits}
-use Rattle.reader.proofs.Whole.{behind-is, behind-sent, sent-done, sent-forward, sent-valid, sent-steady}
-use Rattle.reader.proofs.Whole.{sent-refused}
+use Rattle.reader.proofs.Whole.{sent-forward, sent-valid, sent-steady, sent-refused, sent-leaves}
 use Rattle.reader.proofs.with_sent.Statement.{statement}
 use Rattle.reader.proofs.with_sent.Tie as tie
 
@@ -25,12 +24,13 @@ ran f =
 
 returns : tie.Need-returns
 returns c =
-    let f = c .before in
+    let f = c .before .before in
     let g = f .before .before in
     let a = g .before .before .before .before .args in
-    sent-refused (a .el .now) (a .c .at) (a .c .fields) (a .held) (a .map .now) (a .table .now) _
+    let q = sent-refused (a .el .now) (a .c .at) (a .c .fields) (a .prepared) (a .map .now) (a .table .now) _
     (sym (g .stream-mux-config .ensures .0 .0 .0)
-    ∙ ap (toldWith (g .stream-mux-config .result .held)) (f .reached2 .given .1))
+    ∙ ap (toldWith (g .stream-mux-config .result .held)) (f .reached2 .given .1)) in
+    (c .unsent .ensures ∙ q .0, q .1, q .2)
 
 plan-of-requires : tie.Need-plan-of-requires
 plan-of-requires c κs =
@@ -61,37 +61,32 @@ returns-2 c =
     let s = g .before .before .before .before in
     let a = s .args in
     let r = g .stream-mux-config .result .held in
-    let d = sent-done (a .el .now) (a .c .at) (a .c .fields) r _ _ (s .pre .1) (ran f) in
-    let ok = sent-valid (a .el .now) (a .c .at) (a .c .fields) (ran f) in
-    let b = behind-is (a .el .now) r _ _ true ok _ (pl .plan-of .ensures) (a .map .now) (t .finish .ensures) in
-    let l = rw q at (behind-sent (a .el .now) r _ _ (a .held) (a .table .now) (b .0)) in
+    let l = rw q at (sent-leaves (a .el .now) (a .c .at) (a .c .fields) (a .prepared) (a .map .now) (a .table .now) r _ _
+    (s .pre .1) (ran f) _ (pl .plan-of .ensures) (t .finish .ensures)) in
     let filled = rw (f .reached .given .1) at (g .stream-mux-config .ensures .0 .1) in (
-      ap (λ (v : Verdict). record { verdict = v; held = record { present = true; config = r } }) q ∙ l .0
-          ∙ ap (replyWith (a .held)) (sym d),
-      (b .1 ∙ ap (mapAfter (a .map .now)) (sym d), filled ∙ l .1 ∙ ap (tableAfter (a .table .now)) (sym d)),
+      ap (λ (v : Verdict). record { verdict = v; sent = r; prepared = record { usable = true; plan = pl .plan-of .result } })
+          q ∙ l .0,
+      l .1,
+      filled ∙ l .2,
     )
 
 returns-3 : tie.Need-returns-3
 returns-3 c =
-    let q = c .enum-told2 .given .1 in
-    let t = c .before .before .before .before in
+    let q = c .before .enum-told2 .given .1 in
+    let t = c .before .before .before .before .before in
     let pl = t .before .before in
     let f = pl .before .before .before in
     let g = f .before .before in
     let s = g .before .before .before .before in
     let a = s .args in
     let r = g .stream-mux-config .result .held in
-    let d = sent-done (a .el .now) (a .c .at) (a .c .fields) r _ _ (s .pre .1) (ran f) in
-    let ok = sent-valid (a .el .now) (a .c .at) (a .c .fields) (ran f) in
-    let b = behind-is (a .el .now) r _ _ true ok _ (pl .plan-of .ensures) (a .map .now) (t .finish .ensures) in
-    let l = rw q at (behind-sent (a .el .now) r _ _ (a .held) (a .table .now) (b .0)) in (
-      ap (λ (v : Verdict). record { verdict = v; held = a .held }) q ∙ l .0 ∙ ap (replyWith (a .held)) (sym d),
-      (b .1 ∙ ap (mapAfter (a .map .now)) (sym d), l .1 ∙ ap (tableAfter (a .table .now)) (sym d)),
-    )
+    let l = rw q at (sent-leaves (a .el .now) (a .c .at) (a .c .fields) (a .prepared) (a .map .now) (a .table .now) r _ _
+    (s .pre .1) (ran f) _ (pl .plan-of .ensures) (t .finish .ensures)) in
+    (c .unsent2 .ensures ∙ ap (λ (v : Verdict). unsentReply v (a .prepared)) q ∙ l .0, l .1, l .2)
 
 pub with-sent-spec : {M : Type 1} → statement M
 with-sent-spec =
     tie.close
-    (tie.spec (λ c κs. search needs) (λ c. search needs) (λ c. search needs) returns plan-of-requires
-    finish-requires (λ c. search needs) (λ c. search needs) (λ c. search needs) returns-2 (λ c. search needs)
-    returns-3)
+    (tie.spec (λ c κs. search needs) (λ c. search needs) (λ c. search needs) (λ c κs. search needs) returns
+    plan-of-requires finish-requires (λ c. search needs) (λ c. search needs) (λ c κs. search needs)
+    (λ c. search needs) returns-2 (λ c. search needs) returns-3)

@@ -1,0 +1,57 @@
+-- What readings need of what is held, and what `read_prepared` promises.
+use mathlib.Core.Path.{_≡_}
+use mathlib.Core.Bool.{true, false, cond}
+use mathlib.Core.List.{List}
+use Prim.Native.Nat.{ℕ}
+use lib.ListN.{length, replicate}
+use Rattle.kernel.specs.Element.{Answer, accepted, rejected}
+use Rattle.records.specs.Blank.{noRecord}
+use Rattle.element.specs.declared.Held.{Held}
+use Rattle.element.specs.declared.Verdict.{Verdict}
+use Rattle.element.specs.Mux.{Applied, usable}
+use Rattle.element.specs.Reply.{answer, verdictOf, sentBy, mapAfter, tableAfter}
+use Rattle.walk.specs.declared.Plan.{Plan}
+use Rattle.reader.specs.declared.Prepared.{Prepared}
+use Rattle.reader.specs.declared.PreparedReply.{PreparedReply}
+use Rattle.reader.specs.Parts.{planOf}
+
+abbrev pub noPlan : Plan
+noPlan = record { slots = replicate 16 0; streams = 0; subframes = 0; other = false; bits = 0 }
+
+unfoldable pub preparedOf : Held → Prepared
+preparedOf held = cond (usable held) (record { usable = true; plan = planOf (held .config) })
+    (record { usable = false; plan = noPlan })
+
+-- it is what was prepared of something held
+pub record OfHeld (p : Prepared) : Type 0 where
+  pub held : Held
+  pub is : p ≡ preparedOf held
+
+-- an accepted configuration is prepared from then on
+abbrev pub preparedAfter : Prepared → Answer Applied → Prepared
+preparedAfter p (accepted a its n) = cond (a .sent) (preparedOf (record { present = true; config = a .config })) p
+preparedAfter p (rejected r its) = p
+
+abbrev pub repliedBy : Prepared → Answer Applied → PreparedReply
+repliedBy p x = record { verdict = verdictOf x; sent = sentBy x; prepared = preparedAfter p x }
+
+-- where nothing was sent
+abbrev pub unsentReply : Verdict → Prepared → PreparedReply
+unsentReply v p = record { verdict = v; sent = noRecord; prepared = p }
+
+-- the reply, the map and the table of an answer
+abbrev pub Leaves : Prepared → Answer Applied → List ℕ → List (List ℕ) → PreparedReply → List ℕ → List (List ℕ)
+    → Type 0
+Leaves p x map table r map′ table′ =
+    (r ≡ repliedBy p x) × (map′ ≡ mapAfter map x) × (table′ ≡ tableAfter table x)
+
+-- those of the answer by what is held, whatever that is that this was prepared of
+abbrev pub LeavesBy : Prepared → (Held → Answer Applied) → List ℕ → List (List ℕ) → PreparedReply → List ℕ
+    → List (List ℕ) → Type 0
+LeavesBy p x map table r map′ table′ = (held : Held) → p ≡ preparedOf held → Leaves p (x held) map table r map′ table′
+
+-- `read_prepared`, with the map and the table before and after it
+abbrev pub PreparedPromise : List ℕ → Prepared → List ℕ → List (List ℕ) → PreparedReply → List ℕ → List (List ℕ)
+    → Type 0
+PreparedPromise s p map table r map′ table′ =
+    LeavesBy p (λ held. answer s held (length map)) map table r map′ table′
