@@ -2,9 +2,9 @@
 use mathlib.Core.Path.{_≡_, refl, sym, _∙_}
 use Prim.Native.Nat.{_+_}
 use Rattle.records.specs.Blank.{noRecord}
-use Rattle.config.specs.Mux.{streamMuxConfig, layers, programs, noPlaces}
+use Rattle.config.specs.Mux.{streamMuxConfig, programs, noPlaces}
 use Rattle.config_reader.specs.Answer.{tableAfter, toldHeaded, toldEnded, placesOf}
-use Rattle.config_reader.specs.Claims.{MuxOnce, HeadedOnce, EndedOnce, LayersOnce, ProgramsOnce}
+use Rattle.config_reader.specs.Claims.{MuxOnce, HeadedOnce, EndedOnce, ProgramsOnce}
 use Rattle.kernel.proofs.Once.{answerOf, once-by}
 use Rattle.config_reader.specs.declared.Headed.{Headed}
 use Rattle.config_reader.specs.declared.Headed.the-variants as headed
@@ -27,13 +27,6 @@ ended-back (ended.Refused x) = refl
 
 pub ended-once : EndedOnce
 ended-once = once-by toldEnded (λ v c. ended.Value (record { ending = v; next = c })) ended.Refused ended-back
-
-pub layers-once : LayersOnce
-layers-once version k next streams s at n x y p q =
-    let e =
-    beside-once streams s (layers version k next streams) at n (x .reached) (y .reached) (x .streams)
-    (y .streams) p q in
-    λ i. record { reached = e .0 i; streams = e .1 i }
 
 pub programs-once : ProgramsOnce
 programs-once version last s at n x y t t₁ t₂ p q =

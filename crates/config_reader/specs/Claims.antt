@@ -3,12 +3,10 @@ use mathlib.Core.Path.{_≡_}
 use mathlib.Core.List.{List}
 use Prim.Native.Nat.{ℕ}
 use Rattle.kernel.specs.Promises.{TellsOnce}
-use Rattle.records.specs.declared.Stream.{Stream}
-use Rattle.config_reader.specs.declared.Filled.{Filled}
 use Rattle.config_reader.specs.declared.Placed.{Placed}
 use Rattle.config_reader.specs.declared.Mux.{Mux}
 use Rattle.config_reader.specs.Answer.{toldHeaded, toldEnded}
-use Rattle.config_reader.specs.Promises.{LayersPromise, ProgramsPromise, MuxPromise}
+use Rattle.config_reader.specs.Promises.{ProgramsPromise, MuxPromise}
 
 -- each promise allows one answer, and one content of the table lent
 abbrev pub HeadedOnce : Type 0
@@ -16,10 +14,6 @@ HeadedOnce = TellsOnce toldHeaded
 
 abbrev pub EndedOnce : Type 0
 EndedOnce = TellsOnce toldEnded
-
-abbrev pub LayersOnce : Type 0
-LayersOnce = (version k next : ℕ) (streams : List Stream) (s : List ℕ) (at n : ℕ) (x y : Filled)
-    → LayersPromise version k next streams s at n x → LayersPromise version k next streams s at n y → x ≡ y
 
 abbrev pub ProgramsOnce : Type 0
 ProgramsOnce = (version last : ℕ) (s : List ℕ) (at n : ℕ) (x y : Placed) (t t₁ t₂ : List (List ℕ))

@@ -46,13 +46,7 @@ pub enum Ended {
     Refused(Refusal),
 }
 
-// An enum cannot hold an array, so what was reached stands beside the streams.
-pub struct Filled {
-    pub reached: Reached,
-    pub streams: [Stream; 16],
-}
-
-// What was reached, beside numLayer of each program and the streams.
+// What was reached, beside numLayer of each program and the streams: an enum cannot hold an array.
 pub struct Placed {
     pub reached: Reached,
     pub layers: [u32; 16],
