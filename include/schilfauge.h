@@ -28,22 +28,6 @@
  *   18  the element would have more than 8191 bytes
  *   19  the output is shorter than what is to be written
  *   20  no frame at or after the start, or more than 65536 bytes
- *
- * The words of a record:
- *     0 to   5  version, audioMuxVersionA, taraBufferFullness, allStreamsSameTimeFraming, numSubFrames, numProgram
- *     6 to  21  numLayer of programs 0 to 15
- *    22 to 245  16 streams of 14 words
- *   246 to 249  otherDataPresent, its length in bits, crcCheckPresent, crcCheckSum
- * and of each stream:
- *     0         core object type
- *     1, 2      frequency: 0 and an index, or 1 and Hz
- *     3         channelConfiguration
- *     4 to 6    frameLengthFlag, dependsOnCoreCoder, extensionFlag
- *     7         form: 0 none, 1 type 5, 2 type 29, 3 after 0x2B7 with flag 0, 4 with flag 1, 5 with flag 1 and a PS flag
- *     8, 9      the form's frequency: as words 1 and 2
- *    10         the PS flag
- *    11 to 13   frameLengthType, latmBufferFullness, frameLength
- * What is not sent holds 0, and so do streams and programs past the last. Words that no record has (a form of 6) are no record.
  */
 #ifndef SCHILFAUGE_H
 #define SCHILFAUGE_H
@@ -60,10 +44,52 @@ extern "C" {
 #define SCHILF_ELEMENT_BYTES 8191  /* the most bytes of an element */
 #define SCHILF_FRAME_HEAD 3        /* bytes of a frame in front of its element */
 #define SCHILF_MAP_WORDS 4368      /* the words of a map: 1,092 items of four */
-#define SCHILF_RECORD_WORDS 250    /* the words of a record */
-#define SCHILF_HELD_WORDS 251      /* the words held: a record's, and whether it is present */
 #define SCHILF_PROGRAMS 16         /* the most programs */
 #define SCHILF_LAYERS 8            /* the most layers of a program */
+#define SCHILF_STREAMS 16          /* the most streams */
+
+/* The words of a stream. */
+enum {
+    SCHILF_STREAM_CORE,           /* core object type */
+    SCHILF_STREAM_CHOICE,         /* frequency: 0 for an index, 1 for Hz */
+    SCHILF_STREAM_FREQUENCY,      /* the index, or Hz */
+    SCHILF_STREAM_CHANNELS,       /* channelConfiguration */
+    SCHILF_STREAM_FLAG,           /* frameLengthFlag */
+    SCHILF_STREAM_DEPENDS,        /* dependsOnCoreCoder */
+    SCHILF_STREAM_EXTENSION,      /* extensionFlag */
+    SCHILF_STREAM_FORM,           /* 0 none, 1 type 5, 2 type 29, 3 after 0x2B7 with flag 0, 4 with flag 1, 5 with flag 1 and a PS flag */
+    SCHILF_STREAM_FORM_CHOICE,    /* the form's frequency: 0 for an index, 1 for Hz */
+    SCHILF_STREAM_FORM_FREQUENCY, /* the index, or Hz */
+    SCHILF_STREAM_PS,             /* the PS flag */
+    SCHILF_STREAM_KIND,           /* frameLengthType */
+    SCHILF_STREAM_FULLNESS,       /* latmBufferFullness */
+    SCHILF_STREAM_FIXED,          /* frameLength */
+    SCHILF_STREAM_WORDS
+};
+
+/* The words of a record: what it has once, numLayer of each program, and last the streams. What is not sent holds 0, and so do streams and
+ * programs past the last. Words that no record has (a form of 6) are no record. */
+enum {
+    SCHILF_RECORD_VERSION,    /* audioMuxVersion */
+    SCHILF_RECORD_SUBVERSION, /* audioMuxVersionA */
+    SCHILF_RECORD_TARA,       /* taraBufferFullness */
+    SCHILF_RECORD_FRAMING,    /* allStreamsSameTimeFraming */
+    SCHILF_RECORD_SUBFRAMES,  /* numSubFrames */
+    SCHILF_RECORD_PROGRAMS,   /* numProgram */
+    SCHILF_RECORD_OTHER,      /* otherDataPresent */
+    SCHILF_RECORD_BITS,       /* the length of other data in bits */
+    SCHILF_RECORD_CHECKED,    /* crcCheckPresent */
+    SCHILF_RECORD_CRC,        /* crcCheckSum */
+    SCHILF_RECORD_LAYERS,     /* numLayer of program 0; those of the other programs behind it */
+    SCHILF_RECORD_STREAMS = SCHILF_RECORD_LAYERS + SCHILF_PROGRAMS,
+    SCHILF_RECORD_WORDS = SCHILF_RECORD_STREAMS + SCHILF_STREAMS * SCHILF_STREAM_WORDS
+};
+
+/* Where the words of a stream begin in those of a record. */
+#define SCHILF_STREAM_AT(stream) (SCHILF_RECORD_STREAMS + SCHILF_STREAM_WORDS * (stream))
+
+/* The words held: a record's, and behind them 1 where it is present. */
+enum { SCHILF_HELD_PRESENT = SCHILF_RECORD_WORDS, SCHILF_HELD_WORDS };
 
 /* The words that schilf_hunt finds. */
 enum { SCHILF_FOUND_PLACE, SCHILF_FOUND_SIZE, SCHILF_FOUND_WORDS };

@@ -13,22 +13,22 @@ use Rattle.kernel.proofs.Lists.{length-tab}
 use Rattle.kernel.proofs.Tests.{both}
 use Rattle.records.specs.Blank.{noRecord}
 use Rattle.records.specs.Table.{streamsIn}
-use Rattle.record_words.specs.Words.{wordsOf, recordFrom, sameWords, recordIn}
+use Rattle.record_words.specs.Words.{recordSize, wordsOf, recordFrom, sameWords, recordIn}
 use Rattle.record_words.specs.Claims.{LaidIsFound, FoundHasTheWords, BlankIsRefused, LaidOnce}
 use Rattle.record_words.proofs.Words.{length-words, found-record, same-ahead, same-are, is-record}
 
 pub laid-is-found : LaidIsFound
 laid-is-found r rest k l =
-    let n : length (wordsOf r) ≡ 250 = length-words r k l in
-    let b : 250 ≤ length (wordsOf r ++ rest) = rw length-append (omega (arith, n)) in
+    let n : length (wordsOf r) ≡ recordSize = length-words r k l in
+    let b : recordSize ≤ length (wordsOf r ++ rest) = rw length-append (omega (arith, n)) in
     is-record (wordsOf r ++ rest) r (found-record r rest k l) b (same-ahead (wordsOf r) rest n)
 
-found-by : (w : List ℕ) (t : Bool) → (leb 250 (length w) && sameWords (wordsOf (recordFrom w)) w) ≡ t
-    → (wordsOf (cond t (recordFrom w) noRecord) ≡ take 250 w) ⊎ (cond t (recordFrom w) noRecord ≡ noRecord)
+found-by : (w : List ℕ) (t : Bool) → (leb recordSize (length w) && sameWords (wordsOf (recordFrom w)) w) ≡ t
+    → (wordsOf (cond t (recordFrom w) noRecord) ≡ take recordSize w) ⊎ (cond t (recordFrom w) noRecord ≡ noRecord)
 found-by w true h =
-    let q = both (leb 250 (length w)) (sameWords (wordsOf (recordFrom w)) w) h in
+    let q = both (leb recordSize (length w)) (sameWords (wordsOf (recordFrom w)) w) h in
     inl (same-are (wordsOf (recordFrom w)) w (length-words (recordFrom w) (length-tab 16 _) (length-tab 16 _))
-    (leb-true 250 (length w) (q .0)) (q .1))
+    (leb-true recordSize (length w) (q .0)) (q .1))
 found-by w false h = inr refl
 
 pub found-has-the-words : FoundHasTheWords

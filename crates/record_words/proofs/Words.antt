@@ -21,9 +21,9 @@ use Rattle.records.specs.declared.Stream.{Stream}
 use Rattle.records.specs.declared.Record.{Record}
 use Rattle.records.specs.Blank.{noStream, noRecord}
 use Rattle.records.specs.Same.{formTag, formFreq, formPs}
-use Rattle.record_words.specs.Words.{freqChoice, freqNumber, streamWords, streamsWords, endingWords, wordsOf}
-use Rattle.record_words.specs.Words.{freqFrom, formFrom, streamFrom, layersFrom, streamsFrom, recordFrom}
-use Rattle.record_words.specs.Words.{sameWords, recordIn, laidIn}
+use Rattle.record_words.specs.Words.{layersAt, streamsAt, streamSize, recordSize, freqChoice, freqNumber}
+use Rattle.record_words.specs.Words.{streamWords, streamsWords, wordsOf, freqFrom, formFrom, streamFrom}
+use Rattle.record_words.specs.Words.{layersFrom, streamsFrom, recordFrom, sameWords, recordIn, laidIn}
 
 -- ---- lengths
 
@@ -37,31 +37,33 @@ pub streams-done : (ss : List Stream) → length ss ≡ 16 → streamsWords (dro
 unfolding streamsWords
 streams-done ss l = let h : length ss ≤ 16 = omega arith in rw (drop-of-length-le ss h)
 
-length-streams : (ss : List Stream) → length (streamsWords ss) ≡ 14 * length ss
+length-streams : (ss : List Stream) → length (streamsWords ss) ≡ streamSize * length ss
 unfolding streamsWords
 length-streams [] = refl
 length-streams (s ∷ ss) = simp length-append (omega (arith, length-streams ss))
 
-pub length-words : (r : Record) → length (r .layers) ≡ 16 → length (r .streams) ≡ 16 → length (wordsOf r) ≡ 250
+pub length-words : (r : Record) → length (r .layers) ≡ 16 → length (r .streams) ≡ 16
+    → length (wordsOf r) ≡ recordSize
 length-words r k l = simp length-append (omega (arith, length-streams (r .streams)))
 
 -- ---- words lent
 
-pub laid-none : (w : List ℕ) (r : Record) → length w < 250 → w ≡ laidIn w r
+pub laid-none : (w : List ℕ) (r : Record) → length w < recordSize → w ≡ laidIn w r
 unfolding laidIn
-laid-none w r h = rw (lt-leb 250 (length w) h)
+laid-none w r h = rw (lt-leb recordSize (length w) h)
 
-laid-front : (w w′ b : List ℕ) (to : ℕ) → Stored w 0 b w′ to → to ≡ 250 → 250 ≤ length w → w′ ≡ b ++ drop 250 w
+laid-front : (w w′ b : List ℕ) (to : ℕ) → Stored w 0 b w′ to → to ≡ recordSize → recordSize ≤ length w
+    → w′ ≡ b ++ drop recordSize w
 laid-front w w′ b to p e h =
-    let n : length b ≡ 250 = omega (arith, p .next) in
+    let n : length b ≡ recordSize = omega (arith, p .next) in
     p .cells ∙ rw n at (sets-front b w (omega (arith, n)))
 
-pub laid-all : (w w′ : List ℕ) (r : Record) (to : ℕ) → Stored w 0 (wordsOf r) w′ to → to ≡ 250 → 250 ≤ length w
-    → w′ ≡ laidIn w r
+pub laid-all : (w w′ : List ℕ) (r : Record) (to : ℕ) → Stored w 0 (wordsOf r) w′ to → to ≡ recordSize
+    → recordSize ≤ length w → w′ ≡ laidIn w r
 unfolding laidIn
-laid-all w w′ r to p e h = rw (le-leb 250 (length w) h) (laid-front w w′ (wordsOf r) to p e h)
+laid-all w w′ r to p e h = rw (le-leb recordSize (length w) h) (laid-front w w′ (wordsOf r) to p e h)
 
-pub laid-new : (r : Record) → laidIn (replicate 250 0) r ≡ wordsOf r
+pub laid-new : (r : Record) → laidIn (replicate recordSize 0) r ≡ wordsOf r
 unfolding laidIn
 laid-new r = append-nil (wordsOf r)
 
@@ -101,59 +103,46 @@ found-stream s rest i = record {
 }
 
 drop-streams : (i : ℕ) (ss : List Stream) (rest : List ℕ) → i ≤ length ss
-    → drop (14 * i) (streamsWords ss ++ rest) ≡ streamsWords (drop i ss) ++ rest
+    → drop (streamSize * i) (streamsWords ss ++ rest) ≡ streamsWords (drop i ss) ++ rest
 unfolding streamsWords
 drop-streams zero ss rest h = refl
 drop-streams (suc i) [] rest h = absurd (omega arith)
 drop-streams (suc i) (s ∷ ss) rest h =
-    let e : 14 * suc i ≡ 14 + 14 * i = omega arith in
-    rw (e, append-assoc, drop-append-add (streamWords s) (streamsWords ss ++ rest) (14 * i))
+    let e : streamSize * suc i ≡ streamSize + streamSize * i = omega arith in
+    rw (e, append-assoc, drop-append-add (streamWords s) (streamsWords ss ++ rest) (streamSize * i))
     (drop-streams i ss rest (omega arith))
 
 module _ (r : Record) (rest : List ℕ) (k : length (r .layers) ≡ 16) (l : length (r .streams) ≡ 16) where
   w : List ℕ
   w = wordsOf r ++ rest
 
-  behind : List ℕ
-  behind = streamsWords (r .streams) ++ (endingWords r ++ rest)
+  from-layers : drop layersAt w ≡ r .layers ++ (streamsWords (r .streams) ++ rest)
+  unfolding w
+  from-layers = append-assoc (r .layers) (streamsWords (r .streams)) rest
 
-  from-6 : drop 6 w ≡ r .layers ++ behind
-  unfolding w behind
-  from-6 = rw (append-assoc, append-assoc)
-
-  from-22 : drop 22 w ≡ behind
-  from-22 = sym (drop-drop 16 6 w) ∙ rw from-6 (drop-at (r .layers) behind 16 k)
-
-  from-246 : drop 246 w ≡ endingWords r ++ rest
-  unfolding behind
-  from-246 =
-      sym (drop-drop 224 22 w) ∙ rw from-22
-      (drop-at (streamsWords (r .streams)) _ 224 (omega (arith, length-streams (r .streams))))
+  from-streams : drop streamsAt w ≡ streamsWords (r .streams) ++ rest
+  from-streams = sym (drop-drop 16 layersAt w) ∙ rw from-layers (drop-at (r .layers) _ 16 k)
 
   found-layers : layersFrom w ≡ r .layers
   found-layers =
       ext-getD 0 _ _ (length-tab 16 _ ∙ sym k) λ p h.
       let b : p < 16 = rw length-tab at h in
-      getD-tab 16 _ p 0 b ∙ sym (getD-drop 6 w p 0) ∙ rw from-6 (List·getD-append (r .layers) behind 0 p (omega arith))
+      getD-tab 16 _ p 0 b ∙ sym (getD-drop layersAt w p 0)
+      ∙ rw from-layers (List·getD-append (r .layers) _ 0 p (omega arith))
 
   found-streams : streamsFrom w ≡ r .streams
-  unfolding behind
   found-streams =
       ext-getD noStream _ _ (length-tab 16 _ ∙ sym l) λ i h.
       let b : i < 16 = rw length-tab at h in
       getD-tab 16 _ i noStream b
       ∙ rw (
-        ← drop-drop (14 * i) 22 w,
-        from-22,
-        drop-streams i (r .streams) (endingWords r
-            ++ rest) (omega arith),
+        ← drop-drop (streamSize * i) streamsAt w,
+        from-streams,
+        drop-streams i (r .streams) rest (omega arith),
         streams-turn (r .streams) i (omega arith),
         append-assoc,
       )
-      (found-stream (getD (r .streams) i noStream) (streamsWords (drop (i + 1) (r .streams)) ++ (endingWords r ++ rest)))
-
-  found-ending : (n : ℕ) → getD w (246 + n) 0 ≡ getD (endingWords r ++ rest) n 0
-  found-ending n = sym (getD-drop 246 w n 0) ∙ rw from-246
+      (found-stream (getD (r .streams) i noStream) (streamsWords (drop (i + 1) (r .streams)) ++ rest))
 
   pub found-record : recordFrom (wordsOf r ++ rest) ≡ r
   unfolding w
@@ -164,12 +153,12 @@ module _ (r : Record) (rest : List ℕ) (k : length (r .layers) ≡ 16) (l : len
     framing = r .framing;
     subframes = r .subframes;
     programs = r .programs;
+    other = r .other;
+    bits = r .bits;
+    checked = r .checked;
+    crc = r .crc;
     layers = found-layers i;
     streams = found-streams i;
-    other = found-ending 0 i;
-    bits = found-ending 1 i;
-    checked = found-ending 2 i;
-    crc = found-ending 3 i;
   }
 
 -- ---- words compared
@@ -179,31 +168,32 @@ unfolding allOf
 all-below zero f h = refl
 all-below (suc n) f h = rw (all-below n f (λ i b. h i (omega arith)), h n (omega arith))
 
-pub same-ahead : (a rest : List ℕ) → length a ≡ 250 → sameWords a (a ++ rest) ≡ true
+pub same-ahead : (a rest : List ℕ) → length a ≡ recordSize → sameWords a (a ++ rest) ≡ true
 unfolding sameWords
-same-ahead a rest l = all-below 250 _ λ i b. eq-eqb _ _ (sym (List·getD-append a rest 0 i (omega arith)))
+same-ahead a rest l = all-below recordSize _ λ i b. eq-eqb _ _ (sym (List·getD-append a rest 0 i (omega arith)))
 
-pub same-are : (a w : List ℕ) → length a ≡ 250 → 250 ≤ length w → sameWords a w ≡ true → a ≡ take 250 w
+pub same-are : (a w : List ℕ) → length a ≡ recordSize → recordSize ≤ length w → sameWords a w ≡ true
+    → a ≡ take recordSize w
 unfolding sameWords
 same-are a w l k h =
-    ext-getD 0 a (take 250 w) (l ∙ sym (length-take-le 250 w k)) λ i b.
-    let c : i < 250 = omega arith in
-    eqb-true (getD a i 0) (getD w i 0) (all-of 250 _ h i c) ∙ sym (getD-take 250 w i 0 c)
+    ext-getD 0 a (take recordSize w) (l ∙ sym (length-take-le recordSize w k)) λ i b.
+    let c : i < recordSize = omega arith in
+    eqb-true (getD a i 0) (getD w i 0) (all-of recordSize _ h i c) ∙ sym (getD-take recordSize w i 0 c)
 
 -- ---- the record of words
 
-module _ (w : List ℕ) (r : Record) (e : recordFrom w ≡ r) (b : 250 ≤ length w) where
+module _ (w : List ℕ) (r : Record) (e : recordFrom w ≡ r) (b : recordSize ≤ length w) where
   same-as : sameWords (wordsOf (recordFrom w)) w ≡ sameWords (wordsOf r) w
   same-as = ap (λ a. sameWords (wordsOf a) w) e
 
   pub is-record : sameWords (wordsOf r) w ≡ true → recordIn w ≡ r
   unfolding recordIn
-  is-record h = rw (le-leb 250 (length w) b, same-as, h) e
+  is-record h = rw (le-leb recordSize (length w) b, same-as, h) e
 
   pub is-none : sameWords (wordsOf r) w ≡ false → recordIn w ≡ noRecord
   unfolding recordIn
-  is-none h = rw (le-leb 250 (length w) b, same-as, h)
+  is-none h = rw (le-leb recordSize (length w) b, same-as, h)
 
-pub too-few : (w : List ℕ) → length w < 250 → recordIn w ≡ noRecord
+pub too-few : (w : List ℕ) → length w < recordSize → recordIn w ≡ noRecord
 unfolding recordIn
-too-few w h = rw (lt-leb 250 (length w) h)
+too-few w h = rw (lt-leb recordSize (length w) h)

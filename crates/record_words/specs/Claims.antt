@@ -8,7 +8,7 @@ use lib.ListN.{length, take}
 use Rattle.records.specs.declared.Record.{Record}
 use Rattle.records.specs.Blank.{noRecord}
 use Rattle.records.specs.Valid.{validOf}
-use Rattle.record_words.specs.Words.{wordsOf, recordIn}
+use Rattle.record_words.specs.Words.{recordSize, wordsOf, recordIn}
 use Rattle.record_words.specs.Promises.{LayPromise}
 
 -- a record laid is found again, whatever stands behind it; an array has 16 places
@@ -18,7 +18,7 @@ LaidIsFound =
 
 -- a record found has the words it was found in, or it is the blank one
 abbrev pub FoundHasTheWords : Type 0
-FoundHasTheWords = (w : List ℕ) → (wordsOf (recordIn w) ≡ take 250 w) ⊎ (recordIn w ≡ noRecord)
+FoundHasTheWords = (w : List ℕ) → (wordsOf (recordIn w) ≡ take recordSize w) ⊎ (recordIn w ≡ noRecord)
 
 -- which 16 refuses
 abbrev pub BlankIsRefused : Type 0

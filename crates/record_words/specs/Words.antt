@@ -1,4 +1,4 @@
--- A record as 250 words at fixed places, and the record that words are.
+-- A record as words at fixed places, and the record that words are.
 use mathlib.Core.Bool.{Bool, cond, _&&_}
 use mathlib.Core.List.{List, [], _∷_, _++_}
 use Prim.Native.Nat.{ℕ, _+_, _*_}
@@ -13,6 +13,22 @@ use Rattle.records.specs.declared.Stream.{Stream}
 use Rattle.records.specs.declared.Record.{Record}
 use Rattle.records.specs.Blank.{noRecord}
 use Rattle.records.specs.Same.{formTag, formFreq, formPs}
+
+-- ---- the places: what a record has once, the layers of 16 programs, and last 16 streams
+
+abbrev pub layersAt : ℕ
+layersAt = 10
+
+abbrev pub streamsAt : ℕ
+streamsAt = layersAt + 16
+
+-- the words of a stream
+abbrev pub streamSize : ℕ
+streamSize = 14
+
+-- the words of a record
+abbrev pub recordSize : ℕ
+recordSize = streamsAt + 16 * streamSize
 
 -- ---- the words of a record
 
@@ -29,7 +45,6 @@ freqNumber (Hz h) = h
 abbrev pub formWords : Form → List ℕ
 formWords f = formTag f ∷ freqChoice (formFreq f) ∷ freqNumber (formFreq f) ∷ formPs f ∷ []
 
--- 14 words
 abbrev pub streamWords : Stream → List ℕ
 streamWords s =
     s .config .core
@@ -45,15 +60,23 @@ unfoldable pub streamsWords : List Stream → List ℕ
 streamsWords [] = []
 streamsWords (s ∷ streams) = streamWords s ++ streamsWords streams
 
+-- what a record has once
 abbrev pub headWords : Record → List ℕ
-headWords r = r .version ∷ r .subversion ∷ r .tara ∷ r .framing ∷ r .subframes ∷ r .programs ∷ []
+headWords r =
+    r .version
+    ∷ r .subversion
+    ∷ r .tara
+    ∷ r .framing
+    ∷ r .subframes
+    ∷ r .programs
+    ∷ r .other
+    ∷ r .bits
+    ∷ r .checked
+    ∷ r .crc
+    ∷ []
 
-abbrev pub endingWords : Record → List ℕ
-endingWords r = r .other ∷ r .bits ∷ r .checked ∷ r .crc ∷ []
-
--- 250 words
 abbrev pub wordsOf : Record → List ℕ
-wordsOf r = headWords r ++ (r .layers ++ (streamsWords (r .streams) ++ endingWords r))
+wordsOf r = headWords r ++ (r .layers ++ streamsWords (r .streams))
 
 -- ---- the record of words
 
@@ -83,10 +106,10 @@ streamFrom w = record {
 }
 
 abbrev pub layersFrom : List ℕ → List ℕ
-layersFrom w = tab 16 λ p. getD w (6 + p) 0
+layersFrom w = tab 16 λ p. getD w (layersAt + p) 0
 
 abbrev pub streamsFrom : List ℕ → List Stream
-streamsFrom w = tab 16 λ i. streamFrom (drop (22 + 14 * i) w)
+streamsFrom w = tab 16 λ i. streamFrom (drop (streamsAt + streamSize * i) w)
 
 abbrev pub recordFrom : List ℕ → Record
 recordFrom w = record {
@@ -96,23 +119,23 @@ recordFrom w = record {
   framing = getD w 3 0;
   subframes = getD w 4 0;
   programs = getD w 5 0;
+  other = getD w 6 0;
+  bits = getD w 7 0;
+  checked = getD w 8 0;
+  crc = getD w 9 0;
   layers = layersFrom w;
   streams = streamsFrom w;
-  other = getD w 246 0;
-  bits = getD w 247 0;
-  checked = getD w 248 0;
-  crc = getD w 249 0;
 }
 
--- the first 250 words of both are the same
+-- as many words as a record has are the same in both
 unfoldable pub sameWords : List ℕ → List ℕ → Bool
-sameWords a b = allOf 250 λ i. eqb (getD a i 0) (getD b i 0)
+sameWords a b = allOf recordSize λ i. eqb (getD a i 0) (getD b i 0)
 
 -- Words are a record's where it has these words. Others, a form of number 6 or a PS flag where there is none, are
 -- nobody's and give the blank record.
 unfoldable pub recordIn : List ℕ → Record
-recordIn w = cond (leb 250 (length w) && sameWords (wordsOf (recordFrom w)) w) (recordFrom w) noRecord
+recordIn w = cond (leb recordSize (length w) && sameWords (wordsOf (recordFrom w)) w) (recordFrom w) noRecord
 
 -- words lent, after a record is laid in them: too few stay as they were
 unfoldable pub laidIn : List ℕ → Record → List ℕ
-laidIn w r = cond (leb 250 (length w)) (wordsOf r ++ drop 250 w) w
+laidIn w r = cond (leb recordSize (length w)) (wordsOf r ++ drop recordSize w) w

@@ -1,11 +1,13 @@
 // A record's words, laid into words lent.
 ghost use mathlib.Core.Path.{_≡_};
-ghost use Prim.Native.Nat.{_+_, _≤_};
+ghost use Prim.Native.Nat.{_+_, _*_, _≤_};
 ghost use lib.ListN.{length};
 ghost use Rattle.kernel.specs.Lists.{Stored};
-ghost use Rattle.record_words.specs.Words.{freqChoice, freqNumber, formWords, streamWords, streamsWords};
-ghost use Rattle.record_words.specs.Words.{headWords, endingWords, wordsOf};
+ghost use Rattle.record_words.specs.Words.{layersAt, streamSize, recordSize, freqChoice, freqNumber, formWords};
+ghost use Rattle.record_words.specs.Words.{streamWords, streamsWords, headWords, wordsOf};
 ghost use Rattle.record_words.specs.Promises.{LayPromise};
+use crate::RECORD_WORDS;
+use crate::STREAM_WORDS;
 use records::Form;
 use records::Freq;
 use records::Record;
@@ -42,7 +44,7 @@ fn form_words(f: Form) -> [u32; 4]
     }
 }
 
-fn stream_words(s: Stream) -> [u32; 14]
+fn stream_words(s: Stream) -> [u32; STREAM_WORDS]
     ensures { λ r. ⌜ r ≡ streamWords s ⌝ }
 {
     let c = s.config;
@@ -84,16 +86,17 @@ fn lay(out: &mut [u32], at: usize, src: &[u32]) -> usize
 }
 
 fn lay_stream(out: &mut [u32], at: usize, s: Stream) -> usize
-    requires { ⌜ at + 14 ≤ length (now out) ⌝ }
-    ensures { λ r. ⌜ (r ≡ at + 14) × Stored (now (out .entry)) at (streamWords s) (now (out .exit)) r ⌝ }
+    requires { ⌜ at + streamSize ≤ length (now out) ⌝ }
+    ensures { λ r. ⌜ (r ≡ at + streamSize) × Stored (now (out .entry)) at (streamWords s) (now (out .exit)) r ⌝ }
 {
     let words = stream_words(s);
     lay(out, at, &words)
 }
 
 fn lay_streams(out: &mut [u32], at: usize, streams: [Stream; 16]) -> usize
-    requires { ⌜ at + 224 ≤ length (now out) ⌝ }
-    ensures { λ r. ⌜ (r ≡ at + 224) × Stored (now (out .entry)) at (streamsWords streams) (now (out .exit)) r ⌝ }
+    requires { ⌜ at + 16 * streamSize ≤ length (now out) ⌝ }
+    ensures { λ r. ⌜ (r ≡ at + 16 * streamSize)
+        × Stored (now (out .entry)) at (streamsWords streams) (now (out .exit)) r ⌝ }
 {
     let mut to = at;
     let mut i: usize = 0;
@@ -113,8 +116,8 @@ fn lay_layers(out: &mut [u32], at: usize, layers: [u32; 16]) -> usize
 }
 
 fn lay_head(out: &mut [u32], r: Record) -> usize
-    requires { ⌜ 6 ≤ length (now out) ⌝ }
-    ensures { λ x. ⌜ (x ≡ 6) × Stored (now (out .entry)) 0 (headWords r) (now (out .exit)) x ⌝ }
+    requires { ⌜ layersAt ≤ length (now out) ⌝ }
+    ensures { λ x. ⌜ (x ≡ layersAt) × Stored (now (out .entry)) 0 (headWords r) (now (out .exit)) x ⌝ }
 {
     let words = [
         r.version,
@@ -123,35 +126,30 @@ fn lay_head(out: &mut [u32], r: Record) -> usize
         r.framing,
         r.subframes,
         r.programs,
+        r.other,
+        r.bits,
+        r.checked,
+        r.crc,
     ];
     lay(out, 0, &words)
 }
 
-fn lay_ending(out: &mut [u32], at: usize, r: Record) -> usize
-    requires { ⌜ at + 4 ≤ length (now out) ⌝ }
-    ensures { λ x. ⌜ (x ≡ at + 4) × Stored (now (out .entry)) at (endingWords r) (now (out .exit)) x ⌝ }
-{
-    let words = [r.other, r.bits, r.checked, r.crc];
-    lay(out, at, &words)
-}
-
 fn lay_all(out: &mut [u32], r: Record) -> usize
-    requires { ⌜ 250 ≤ length (now out) ⌝ }
-    ensures { λ x. ⌜ (x ≡ 250) × Stored (now (out .entry)) 0 (wordsOf r) (now (out .exit)) x ⌝ }
+    requires { ⌜ recordSize ≤ length (now out) ⌝ }
+    ensures { λ x. ⌜ (x ≡ recordSize) × Stored (now (out .entry)) 0 (wordsOf r) (now (out .exit)) x ⌝ }
 {
     let layers = r.layers;
     let streams = r.streams;
     let head = lay_head(out, r);
     let first = lay_layers(out, head, layers);
-    let ending = lay_streams(out, first, streams);
-    lay_ending(out, ending, r)
+    lay_streams(out, first, streams)
 }
 
-// Lays the words at the start, where there is room for 250.
+// Lays the words at the start, where there is room for them.
 pub fn lay_record(out: &mut [u32], r: Record) -> bool
     ensures { λ x. ⌜ LayPromise r (now (out .entry)) x (now (out .exit)) ⌝ }
 {
-    if out.len() < 250 {
+    if out.len() < RECORD_WORDS {
         return false;
     }
     lay_all(out, r);

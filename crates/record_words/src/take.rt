@@ -2,8 +2,12 @@
 ghost use mathlib.Core.Path.{_≡_};
 ghost use Prim.Native.Nat.{_≤_};
 ghost use lib.ListN.{length};
-ghost use Rattle.record_words.specs.Words.{freqFrom, formFrom, streamFrom, layersFrom, streamsFrom, wordsOf};
-ghost use Rattle.record_words.specs.Words.{recordFrom, sameWords, recordIn};
+ghost use Rattle.record_words.specs.Words.{streamSize, recordSize, wordsOf, freqFrom, formFrom, streamFrom};
+ghost use Rattle.record_words.specs.Words.{layersFrom, streamsFrom, recordFrom, sameWords, recordIn};
+use crate::LAYERS_AT;
+use crate::RECORD_WORDS;
+use crate::STREAM_WORDS;
+use crate::STREAMS_AT;
 use crate::lay_record;
 use records::Config;
 use records::Form;
@@ -37,7 +41,7 @@ fn form_from(tag: u32, x: Freq, ps: u32) -> Form
 
 // The stream whose words stand first.
 fn stream_from(w: &[u32]) -> Stream
-    requires { ⌜ 14 ≤ length (now w) ⌝ }
+    requires { ⌜ streamSize ≤ length (now w) ⌝ }
     ensures { λ r. ⌜ r ≡ streamFrom (now (w .entry)) ⌝ }
 {
     let x = freq_from(w[1], w[2]);
@@ -61,27 +65,27 @@ fn stream_from(w: &[u32]) -> Stream
 }
 
 fn layers_from(w: &[u32]) -> [u32; 16]
-    requires { ⌜ 250 ≤ length (now w) ⌝ }
+    requires { ⌜ recordSize ≤ length (now w) ⌝ }
     ensures { λ r. ⌜ r ≡ layersFrom (now (w .entry)) ⌝ }
 {
     let mut layers = [0u32; 16];
     let mut p: usize = 0;
     while p < 16 {
-        layers[p] = w[6 + p];
+        layers[p] = w[LAYERS_AT + p];
         p += 1;
     }
     layers
 }
 
 fn streams_from(w: &[u32]) -> [Stream; 16]
-    requires { ⌜ 250 ≤ length (now w) ⌝ }
+    requires { ⌜ recordSize ≤ length (now w) ⌝ }
     ensures { λ r. ⌜ r ≡ streamsFrom (now (w .entry)) ⌝ }
 {
     let blank = no_stream();
     let mut streams = [blank; 16];
     let mut i: usize = 0;
     while i < 16 {
-        let s = stream_from(&w[22 + 14 * i..]);
+        let s = stream_from(&w[STREAMS_AT + STREAM_WORDS * i..]);
         streams[i] = s;
         i += 1;
     }
@@ -89,7 +93,7 @@ fn streams_from(w: &[u32]) -> [Stream; 16]
 }
 
 fn record_from(w: &[u32]) -> Record
-    requires { ⌜ 250 ≤ length (now w) ⌝ }
+    requires { ⌜ recordSize ≤ length (now w) ⌝ }
     ensures { λ r. ⌜ r ≡ recordFrom (now (w .entry)) ⌝ }
 {
     let layers = layers_from(w);
@@ -101,22 +105,22 @@ fn record_from(w: &[u32]) -> Record
         framing: w[3],
         subframes: w[4],
         programs: w[5],
+        other: w[6],
+        bits: w[7],
+        checked: w[8],
+        crc: w[9],
         layers: layers,
         streams: streams,
-        other: w[246],
-        bits: w[247],
-        checked: w[248],
-        crc: w[249],
     }
 }
 
 fn same_words(a: &[u32], b: &[u32]) -> bool
-    requires { ⌜ (250 ≤ length (now a)) × (250 ≤ length (now b)) ⌝ }
+    requires { ⌜ (recordSize ≤ length (now a)) × (recordSize ≤ length (now b)) ⌝ }
     ensures { λ r. ⌜ r ≡ sameWords (now (a .entry)) (now (b .entry)) ⌝ }
 {
     let mut same = true;
     let mut i: usize = 0;
-    while i < 250 {
+    while i < RECORD_WORDS {
         same = same & (a[i] == b[i]);
         i += 1;
     }
@@ -125,19 +129,19 @@ fn same_words(a: &[u32], b: &[u32]) -> bool
 
 // Whether the words of a record are these.
 fn has_words(r: Record, w: &[u32]) -> bool
-    requires { ⌜ 250 ≤ length (now w) ⌝ }
+    requires { ⌜ recordSize ≤ length (now w) ⌝ }
     ensures { λ x. ⌜ x ≡ sameWords (wordsOf r) (now (w .entry)) ⌝ }
 {
-    let mut words = [0u32; 250];
+    let mut words = [0u32; RECORD_WORDS];
     lay_record(&mut words, r);
     same_words(&words, w)
 }
 
-// The record that the first 250 words are, or the blank one.
+// The record that the first RECORD_WORDS words are, or the blank one.
 pub fn record_in(w: &[u32]) -> Record
     ensures { λ r. ⌜ r ≡ recordIn (now (w .entry)) ⌝ }
 {
-    if w.len() < 250 {
+    if w.len() < RECORD_WORDS {
         return no_record();
     }
     let r = record_from(w);

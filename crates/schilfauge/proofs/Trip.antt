@@ -12,7 +12,7 @@ use Rattle.kernel.specs.Bits.{bit}
 use Rattle.kernel.proofs.Lists.{length-tab}
 use Rattle.records.specs.Blank.{noRecord}
 use Rattle.records.specs.Valid.{validOf}
-use Rattle.record_words.specs.Words.{wordsOf, recordFrom, sameWords, recordIn}
+use Rattle.record_words.specs.Words.{recordSize, wordsOf, recordFrom, sameWords, recordIn}
 use Rattle.record_words.proofs.Theorems.{found-has-the-words, blank-is-refused}
 use Rattle.sync.specs.declared.Framed.the-variants as framed
 use Rattle.sync.specs.Sync.{framedOf}
@@ -37,20 +37,20 @@ use Rattle.schilfauge.specs.Claims.{elementIn, FoundBack, ReadBack, Trip
 use Rattle.schilfauge.proofs.Words.{held-laid}
 use Rattle.schilfauge.proofs.Numbers.{written-16, done-0}
 
--- ---- the record of 250 words of 32 bits
+-- ---- the record of words of 32 bits
 
 record-typed : (w : List ℕ) → ((i : ℕ) → getD w i 0 < 2 ^ 32) → Typed (recordIn w)
 unfolding recordIn
 record-typed w h =
-    chosen Typed (leb 250 (length w)
+    chosen Typed (leb recordSize (length w)
     && sameWords (wordsOf (recordFrom w)) w) (recordFrom w) noRecord
-    (length-tab 16 _, length-tab 16 _, h 2, h 247) (refl, refl, omega arith, omega arith)
+    (length-tab 16 _, length-tab 16 _, h _, h _) (refl, refl, omega arith, omega arith)
 
 -- where it is valid, the words are its own
-words-are : (w : List ℕ) → length w ≡ 250 → validOf (recordIn w) ≡ true → wordsOf (recordIn w) ≡ w
+words-are : (w : List ℕ) → length w ≡ recordSize → validOf (recordIn w) ≡ true → wordsOf (recordIn w) ≡ w
 words-are w l v = go (found-has-the-words w)
   where
-    go : (wordsOf (recordIn w) ≡ take 250 w) ⊎ (recordIn w ≡ noRecord) → wordsOf (recordIn w) ≡ w
+    go : (wordsOf (recordIn w) ≡ take recordSize w) ⊎ (recordIn w ≡ noRecord) → wordsOf (recordIn w) ≡ w
     go (inl e) = e ∙ rw l at (take-length w)
     go (inr e) = let z : bit false ≡ bit true = ap bit (sym blank-is-refused ∙ rw e at v) in absurd (omega arith)
 
@@ -103,7 +103,7 @@ module _ (w : Sent) (words el held map : List ℕ) (own : wordsOf (w .config) �
 
 -- ---- all together
 
-module _ (words : List ℕ) (l : length words ≡ 250) (small : (i : ℕ)
+module _ (words : List ℕ) (l : length words ≡ recordSize) (small : (i : ℕ)
     → getD words i 0 < 2 ^ 32) (send : Bool) (lengths payload other out : List ℕ) (size : ℕ) where
   abbrev w : Sent
   w = sentIn words send lengths payload other

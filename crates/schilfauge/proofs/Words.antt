@@ -2,7 +2,7 @@
 use mathlib.Core.Path.{_≡_, refl, sym, ap, _∙_}
 use mathlib.Core.Bool.{Bool, true, false, cond}
 use mathlib.Core.List.{List, [], _∷_, _++_}
-use Prim.Native.Nat.{ℕ}
+use Prim.Native.Nat.{ℕ, _+_}
 use lib.Dec.{eqb}
 use lib.ListN.{length, getD, replicate}
 use lib.Seq.{getD-append-seam}
@@ -13,7 +13,7 @@ use Rattle.kernel.specs.Element.{Answer, accepted, rejected}
 use Rattle.records.specs.declared.Record.{Record}
 use Rattle.records.specs.Valid.{validOf}
 use Rattle.records.specs.Table.{tableOf}
-use Rattle.record_words.specs.Words.{wordsOf, recordIn, laidIn}
+use Rattle.record_words.specs.Words.{recordSize, wordsOf, recordIn, laidIn}
 use Rattle.record_words.proofs.Theorems.{laid-is-found}
 use Rattle.record_words.proofs.Words.{length-words}
 use Rattle.sync.specs.declared.Framed.{Framed}
@@ -34,12 +34,12 @@ byte-bit true = refl
 byte-bit false = refl
 
 -- a record laid over ones is present
-pub laid-held : (r : Record) → laidIn (replicate 251 1) r ≡ heldWords r
+pub laid-held : (r : Record) → laidIn (replicate (recordSize + 1) 1) r ≡ heldWords r
 unfolding laidIn
 laid-held r = refl
 
 -- the word behind those of a record
-word-behind : (b : List ℕ) → length b ≡ 250 → getD (b ++ (1 ∷ [])) 250 0 ≡ 1
+word-behind : (b : List ℕ) → length b ≡ recordSize → getD (b ++ (1 ∷ [])) recordSize 0 ≡ 1
 word-behind b n = rw n at (getD-append-seam b 1 [] 0)
 
 -- and is found so

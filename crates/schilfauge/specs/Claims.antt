@@ -14,6 +14,7 @@ use Rattle.records.specs.declared.Record.{Record}
 use Rattle.records.specs.Blank.{noStream}
 use Rattle.records.specs.Table.{streamsIn}
 use Rattle.records.specs.Valid.{validOf}
+use Rattle.record_words.specs.Words.{recordSize}
 use Rattle.row.specs.Row.{rowOf}
 use Rattle.row.specs.Claims.{IsThere}
 use Rattle.sync.specs.declared.Hunted.the-variants as hunted
@@ -118,11 +119,11 @@ pub record Trip (w : Sent) (words el : List ℕ) : Type 0 where
   pub read : (held map : List ℕ) (x : ℕ) (held′ map′ told′ : List ℕ) → ReadPromise el held map x held′ map′ told′
       → (w .send ≡ true) ⊎ (held ≡ words ++ (1 ∷ [])) → 4368 ≤ length map → ReadBack w words el x held′ map′ told′
 
--- for any 250 words of 32 bits
+-- for any words of 32 bits, as many as a record has
 abbrev pub WrittenComesBack : Type 0
 WrittenComesBack =
     (words : List ℕ) (send : Bool) (lengths payload other out : List ℕ) (size x : ℕ) (out′ : List ℕ) (size′ : ℕ)
-    → length words ≡ 250 → ((i : ℕ) → getD words i 0 < 2 ^ 32)
+    → length words ≡ recordSize → ((i : ℕ) → getD words i 0 < 2 ^ 32)
     → let w = sentIn words send lengths payload other in
     WritePromise w out size x out′ size′ → x ≡ 0 → Trip w words (take size′ out′)
 

@@ -11,7 +11,7 @@ use Rattle.kernel.specs.Element.{Answer, accepted, rejected}
 use Rattle.records.specs.declared.Record.{Record}
 use Rattle.records.specs.Valid.{validOf}
 use Rattle.records.specs.Table.{tableOf}
-use Rattle.record_words.specs.Words.{wordsOf, recordIn}
+use Rattle.record_words.specs.Words.{recordSize, wordsOf, recordIn}
 use Rattle.sync.specs.declared.Hunted.{Hunted}
 use Rattle.sync.specs.declared.Hunted.the-variants as hunted
 use Rattle.sync.specs.declared.Framed.{Framed}
@@ -41,11 +41,11 @@ foundAfter found (hunted.Refused x) = found
 
 -- ---- reading
 
--- what 251 words hold: the record that 250 of them are, present where the last is 1
+-- what words hold: the record that the first of them are, present where the one behind these is 1
 abbrev pub heldIn : List ℕ → Held
-heldIn w = record { present = eqb (getD w 250 0) 1; config = recordIn w }
+heldIn w = record { present = eqb (getD w recordSize 0) 1; config = recordIn w }
 
--- the 251 words of a record that is present
+-- the words of a record that is present
 abbrev pub heldWords : Record → List ℕ
 heldWords r = wordsOf r ++ (1 ∷ [])
 
@@ -99,7 +99,7 @@ rowAfter row r p l = cond (validOf r) (rowAt r (tableOf (r .layers) (r .programs
 
 -- ---- writing
 
--- what is to be written, with the record that 250 words are
+-- what is to be written, with the record that the words are
 abbrev pub sentIn : List ℕ → Bool → List ℕ → List ℕ → List ℕ → Sent
 sentIn w send lengths payload other = toSend (recordIn w) send lengths payload other
 

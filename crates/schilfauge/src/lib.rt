@@ -9,6 +9,7 @@ ghost use Rattle.schilfauge.specs.Promises.{HuntPromise, ReadPromise, Ro
 use element::Held;
 use element::Verdict;
 use reader::read;
+use record_words::RECORD_WORDS;
 use record_words::lay_record;
 use record_words::record_in;
 use records::Record;
@@ -24,6 +25,9 @@ use sync::hunt;
 use writer::Written;
 use writer::write;
 
+// The words held: a record's, and behind them 1 where it is present.
+const HELD_WORDS: usize = RECORD_WORDS + 1;
+
 // The first frame at or after the start: its place, and the bytes of its element.
 #[no_mangle]
 pub extern "C" fn schilf_hunt(capture: &[u8], start: usize, found: &mut [usize; 2]) -> usize
@@ -38,20 +42,20 @@ pub extern "C" fn schilf_hunt(capture: &[u8], start: usize, found: &mut [usize; 
     }
 }
 
-fn held_in(words: &[u32; 251]) -> Held
+fn held_in(words: &[u32; HELD_WORDS]) -> Held
     ensures { λ r. ⌜ r ≡ heldIn (now (words .entry)) ⌝ }
 {
     let r = record_in(words);
     Held {
-        present: words[250] == 1,
+        present: words[RECORD_WORDS] == 1,
         config: r,
     }
 }
 
-fn held_words(r: Record) -> [u32; 251]
+fn held_words(r: Record) -> [u32; HELD_WORDS]
     ensures { λ x. ⌜ x ≡ heldWords r ⌝ }
 {
-    let mut words = [1u32; 251];
+    let mut words = [1u32; HELD_WORDS];
     lay_record(&mut words, r);
     words
 }
@@ -80,7 +84,7 @@ fn answer_words(v: Verdict) -> [usize; 4]
 }
 
 // A configuration that was sent and accepted is kept in the words.
-fn keep(words: &mut [u32; 251], v: Verdict, r: Record)
+fn keep(words: &mut [u32; HELD_WORDS], v: Verdict, r: Record)
     ensures { λ x. ⌜ now (words .exit) ≡ keptAfter (now (words .entry)) v r ⌝ }
 {
     match v {
@@ -98,7 +102,7 @@ fn keep(words: &mut [u32; 251], v: Verdict, r: Record)
 #[no_mangle]
 pub extern "C" fn schilf_read(
     element: &[u8],
-    held: &mut [u32; 251],
+    held: &mut [u32; HELD_WORDS],
     map: &mut [u32],
     told: &mut [usize; 4],
 ) -> usize
@@ -160,7 +164,7 @@ fn row_at(r: Record, program: u32, layer: u32) -> [i64; 9]
 // The row of a program's layer of a record's words, behind its stream's number.
 #[no_mangle]
 pub extern "C" fn schilf_row(
-    words: &[u32; 250],
+    words: &[u32; RECORD_WORDS],
     program: u32,
     layer: u32,
     row: &mut [i64; 9],
@@ -178,7 +182,7 @@ pub extern "C" fn schilf_row(
 // One element, written into `out` from a record's words; the bytes of it.
 #[no_mangle]
 pub extern "C" fn schilf_write(
-    words: &[u32; 250],
+    words: &[u32; RECORD_WORDS],
     send: bool,
     lengths: &[u32],
     payload: &[u8],

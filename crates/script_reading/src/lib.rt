@@ -1,6 +1,7 @@
 // Cases of a script that fields: H, R, W and S. Each says whether the script goes on.
 use element::Held;
 use element::Verdict;
+use record_words::RECORD_WORDS;
 use records::Record;
 use row::Rowed;
 use script::CUT;
@@ -32,8 +33,8 @@ pub fn after(held: Held, more: bool) -> Next {
 // H: a record that is lent as held.
 pub fn hold(held: Held, words: &mut [u32]) -> Next {
     let present = number(1);
-    let n = take_words(words, 250);
-    if (1 < present) | (n != 250) {
+    let n = take_words(words, RECORD_WORDS);
+    if (1 < present) | (n != RECORD_WORDS) {
         return after(held, false);
     }
     let r = record_words::record_in(words);

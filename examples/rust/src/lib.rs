@@ -3,6 +3,8 @@
 // The header asks that nothing lent is null, that it is as long as it says, and that what is written overlaps with nothing else lent. Each call
 // below lends whole slices and arrays, none of them twice, so it is sound.
 mod c {
+    use super::HELD_WORDS;
+
     extern "C" {
         pub fn schilf_hunt(
             capture: *const u8,
@@ -13,7 +15,7 @@ mod c {
         pub fn schilf_read(
             element: *const u8,
             element_count: usize,
-            held: *mut [u32; 251],
+            held: *mut [u32; HELD_WORDS],
             map: *mut u32,
             map_count: usize,
             answer: *mut [usize; 4],
@@ -49,6 +51,7 @@ mod c {
 
 pub const CAPTURE_BYTES: usize = 65536;
 pub const MAP_WORDS: usize = 4368;
+const HELD_WORDS: usize = 251;
 
 /// A refusal: its number, and of an element the bit where the reading stopped and the fields read by then.
 #[derive(Clone, Copy, Debug, PartialEq, Eq)]
@@ -90,7 +93,7 @@ pub struct Row {
 
 /// The configuration held: the words of a record, and 1 where it is present.
 #[derive(Clone, Debug, PartialEq, Eq)]
-pub struct Held([u32; 251]);
+pub struct Held([u32; HELD_WORDS]);
 
 /// The first frame at or after the start: its element, and the place behind it, where the next hunt starts.
 pub fn hunt(capture: &[u8], start: usize) -> Option<(&[u8], usize)> {
@@ -103,7 +106,7 @@ pub fn hunt(capture: &[u8], start: usize) -> Option<(&[u8], usize)> {
 
 impl Held {
     pub fn nothing() -> Held {
-        Held([0; 251])
+        Held([0; HELD_WORDS])
     }
 
     /// Reads one element, and holds the configuration that it sends where it is accepted.

@@ -7,24 +7,14 @@ use Rattle.record_words.proofs.lay.lay_all.Tie as tie
 
 returns : tie.Need-returns
 returns c =
-    let t = c .before .before in
-    let s = t .before .before .before .before in
+    let s = c .before .before in
     let l = s .before .before .before .before in
     let h = l .before .before .before .before in (
-      omega (
-        arith,
-        h .lay-head .ensures .0,
-        l .lay-layers .ensures .0,
-        s .lay-streams .ensures .0,
-        t .lay-ending .ensures .0,
-      ),
-      stored-then (h .lay-head .ensures .1)
-          (stored-then (l .lay-layers .ensures .1)
-          (stored-then (s .lay-streams .ensures .1) (t .lay-ending .ensures .1))),
+      omega (arith, h .lay-head .ensures .0, l .lay-layers .ensures .0, s .lay-streams .ensures .0),
+      stored-then (h .lay-head .ensures .1) (stored-then (l .lay-layers .ensures .1) (s .lay-streams .ensures .1)),
     )
 
 pub lay-all-spec : {M : Type 1} → statement M
 lay-all-spec =
     tie.close
-    (tie.spec (λ c κs. search needs) (λ c κs. search needs) (λ c κs. search needs) (λ c κs. search needs)
-    (λ c. search needs) returns)
+    (tie.spec (λ c κs. search needs) (λ c κs. search needs) (λ c κs. search needs) (λ c. search needs) returns)

@@ -1,6 +1,6 @@
 -- `record_words::lay::lay_streams` meets its contract.
 use Rattle.record_words.proofs.Words.{streams-turn, streams-done}
-use Rattle.record_words.specs.Words.{streamsWords}
+use Rattle.record_words.specs.Words.{streamSize, streamsWords}
 use Rattle.kernel.proofs.Lists.{ToStore, store-all, store-on, stored-none}
 use mathlib.Core.Path.{_≡_, refl, _∙_}
 use Prim.Native.Nat.{_≤_, _-_, _+_, _*_}
@@ -13,7 +13,7 @@ use Rattle.record_words.proofs.lay.lay_streams.Tie as tie
 
 abbrev Inv-loop : tie.InvT-loop
 Inv-loop out₀ at streams to₀ i₀ out to i =
-    (i ≤ 16) × (to ≡ at + 14 * i) × (length out ≡ length out₀)
+    (i ≤ 16) × (to ≡ at + streamSize * i) × (length out ≡ length out₀)
     × ToStore out₀ at (streamsWords streams) out to (streamsWords (drop i streams))
 
 abbrev μ-loop : tie.MeasureT-loop

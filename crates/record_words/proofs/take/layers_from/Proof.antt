@@ -8,11 +8,12 @@ use borrow.Author.Needs.{needs}
 use Rattle.kernel.specs.Lists.{tab}
 use Rattle.kernel.proofs.Lists.{tab-none, tab-more}
 use Rattle.records.proofs.Tables.{tab-all}
+use Rattle.record_words.specs.Words.{layersAt}
 use Rattle.record_words.proofs.take.layers_from.Statement.{statement}
 use Rattle.record_words.proofs.take.layers_from.Tie as tie
 
 abbrev Inv-loop : tie.InvT-loop
-Inv-loop w layers₀ p₀ layers p = (p ≤ 16) × (layers ≡ tab p (λ k. getD w (6 + k) 0) ++ drop p layers₀)
+Inv-loop w layers₀ p₀ layers p = (p ≤ 16) × (layers ≡ tab p (λ k. getD w (layersAt + k) 0) ++ drop p layers₀)
 
 abbrev μ-loop : tie.MeasureT-loop
 μ-loop w layers₀ p₀ layers p = 16 - p

@@ -1,5 +1,5 @@
 -- `record_words::take::same_words` meets its contract.
-use Rattle.record_words.specs.Words.{sameWords}
+use Rattle.record_words.specs.Words.{recordSize, sameWords}
 use mathlib.Core.Path.{_≡_, refl}
 use Prim.Native.Nat.{_≤_, _-_}
 use native.Mathlib.Numerals.{add-one}
@@ -12,10 +12,10 @@ use Rattle.record_words.proofs.take.same_words.Statement.{statement}
 use Rattle.record_words.proofs.take.same_words.Tie as tie
 
 abbrev Inv-loop : tie.InvT-loop
-Inv-loop a b same₀ i₀ same i = (i ≤ 250) × (same ≡ allOf i λ k. eqb (getD a k 0) (getD b k 0))
+Inv-loop a b same₀ i₀ same i = (i ≤ recordSize) × (same ≡ allOf i λ k. eqb (getD a k 0) (getD b k 0))
 
 abbrev μ-loop : tie.MeasureT-loop
-μ-loop a b same₀ i₀ same i = 250 - i
+μ-loop a b same₀ i₀ same i = recordSize - i
 
 loop-holds : tie.Need-loop-holds Inv-loop μ-loop
 unfolding allOf
@@ -29,7 +29,7 @@ returns : tie.Need-returns Inv-loop μ-loop
 unfolding sameWords
 returns c =
     let l = c .before .loop in
-    let e : l .i ≡ 250 = omega arith in
+    let e : l .i ≡ recordSize = omega arith in
     rw e at (l .inv .1)
 
 pub same-words-spec : {M : Type 1} → statement M

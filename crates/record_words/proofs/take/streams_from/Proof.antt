@@ -1,7 +1,7 @@
 -- `record_words::take::streams_from` meets its contract.
 use Rattle.record_words.proofs.Words.{stream-from}
 use Rattle.records.specs.Blank.{noStream}
-use Rattle.record_words.specs.Words.{streamFrom}
+use Rattle.record_words.specs.Words.{streamsAt, streamSize, streamFrom}
 use mathlib.Core.Path.{_≡_, refl, _∙_}
 use mathlib.Core.List.{_++_}
 use Prim.Native.Nat.{_≤_, _-_, _+_, _*_}
@@ -16,7 +16,7 @@ use Rattle.record_words.proofs.take.streams_from.Tie as tie
 
 abbrev Inv-loop : tie.InvT-loop
 Inv-loop w streams₀ i₀ streams i =
-    (i ≤ 16) × (streams ≡ tab i (λ k. streamFrom (drop (22 + 14 * k) w)) ++ drop i streams₀)
+    (i ≤ 16) × (streams ≡ tab i (λ k. streamFrom (drop (streamsAt + streamSize * k) w)) ++ drop i streams₀)
 
 abbrev μ-loop : tie.MeasureT-loop
 μ-loop w streams₀ i₀ streams i = 16 - i
