@@ -1,28 +1,23 @@
-//! A record as 250 words, in the order of docs/SCRIPT.md.
+//! A record as words, in the order of docs/SCRIPT.md: head, ending, layers, streams.
 
-use crate::record::{AudioConfig, Form, Frequency, Record, Stream};
+use crate::record::{AudioConfig, Form, Frequency, Record, Stream, PROGRAMS, STREAMS};
 
-pub const WORDS: usize = 250;
+const HEAD_WORDS: usize = 6;
+const ENDING_WORDS: usize = 4;
+pub const STREAM_WORDS: usize = 14;
+
+/// The first word of each part behind the head.
+pub const ENDING_AT: usize = HEAD_WORDS;
+pub const LAYERS_AT: usize = ENDING_AT + ENDING_WORDS;
+pub const STREAMS_AT: usize = LAYERS_AT + PROGRAMS;
+pub const WORDS: usize = STREAMS_AT + STREAMS * STREAM_WORDS;
 
 pub fn words(record: &Record) -> Vec<u32> {
-    let mut words = vec![
-        record.version,
-        record.version_a,
-        record.tara,
-        record.same_framing,
-        record.num_sub_frames,
-        record.num_program,
-    ];
+    let mut words = Vec::with_capacity(WORDS);
+    words.extend(head_words(record));
+    words.extend(ending_words(record));
     words.extend(record.num_layer);
-    for stream in &record.streams {
-        words.extend(stream_words(stream));
-    }
-    words.extend([
-        record.other_present,
-        record.other_bits,
-        record.crc_present,
-        record.crc,
-    ]);
+    words.extend(record.streams.iter().flat_map(stream_words));
     words.into_iter().map(word).collect()
 }
 
@@ -30,7 +25,27 @@ fn word(value: u64) -> u32 {
     u32::try_from(value).expect("a record of 32-bit numbers")
 }
 
-fn stream_words(stream: &Stream) -> [u64; 14] {
+fn head_words(record: &Record) -> [u64; HEAD_WORDS] {
+    [
+        record.version,
+        record.version_a,
+        record.tara,
+        record.same_framing,
+        record.num_sub_frames,
+        record.num_program,
+    ]
+}
+
+fn ending_words(record: &Record) -> [u64; ENDING_WORDS] {
+    [
+        record.other_present,
+        record.other_bits,
+        record.crc_present,
+        record.crc,
+    ]
+}
+
+fn stream_words(stream: &Stream) -> [u64; STREAM_WORDS] {
     let audio = &stream.audio;
     let (choice, number) = frequency_words(audio.frequency);
     let (form, extension, ps) = match audio.form {
@@ -77,6 +92,10 @@ pub fn record(words: &[u32]) -> Option<Record> {
         same_framing: words.next()?,
         num_sub_frames: words.next()?,
         num_program: words.next()?,
+        other_present: words.next()?,
+        other_bits: words.next()?,
+        crc_present: words.next()?,
+        crc: words.next()?,
         ..Record::default()
     };
     for last in &mut record.num_layer {
@@ -85,10 +104,6 @@ pub fn record(words: &[u32]) -> Option<Record> {
     for place in &mut record.streams {
         *place = stream(&mut words)?;
     }
-    record.other_present = words.next()?;
-    record.other_bits = words.next()?;
-    record.crc_present = words.next()?;
-    record.crc = words.next()?;
     Some(record)
 }
 

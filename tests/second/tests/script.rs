@@ -10,7 +10,7 @@ use second::maker::script;
 use second::random::Random;
 use second::record::{Form, Frequency, Record, Stream};
 use second::script::{Case, Cases};
-use second::words;
+use second::words::{self, ENDING_AT, LAYERS_AT, STREAMS_AT, STREAM_WORDS, WORDS};
 
 fn answer(cases: &[Case]) -> String {
     answers(&bytes(cases))
@@ -101,21 +101,61 @@ fn a_script_by_its_bytes() {
     assert_eq!(answers(&script), whole);
 }
 
+/// Each word is 0 or its own number in docs/SCRIPT.md.
+#[test]
+fn the_places_of_the_words() {
+    assert_eq!((ENDING_AT, LAYERS_AT, STREAMS_AT), (6, 10, 26));
+    assert_eq!((STREAM_WORDS, WORDS), (14, 250));
+    let mut record = Record {
+        version_a: 1,
+        tara: 2,
+        same_framing: 3,
+        num_sub_frames: 4,
+        num_program: 5,
+        other_present: 6,
+        other_bits: 7,
+        crc_present: 8,
+        crc: 9,
+        ..Record::default()
+    };
+    record.num_layer[0] = 10;
+    record.num_layer[15] = 25;
+    record.streams[0].audio.core_type = 26;
+    record.streams[0].frame_length = 39;
+    record.streams[1].audio.core_type = 40;
+    record.streams[15].frame_length = 249;
+    let mut script = vec![b'H', 1];
+    for place in 0..250_u32 {
+        let word = match place {
+            0..=10 | 25 | 26 | 39 | 40 | 249 => place,
+            _ => 0,
+        };
+        script.extend(word.to_be_bytes());
+    }
+    assert_eq!(bytes(&[hold(&record)]), script);
+    assert_eq!(Cases::new(&script).next(), Some(hold(&record)));
+}
+
 /// A record put together word by word.
 #[test]
 fn the_words_of_a_record() {
-    let mut expected = vec![0; words::WORDS];
+    let mut expected = vec![0; WORDS];
     let mut put = |at: usize, values: &[u32]| {
         expected[at..at + values.len()].copy_from_slice(values);
     };
-    put(0, &[1, 0, 256, 1, 5, 1, 1]);
-    put(22, &[2, 0, 6, 1, 1, 0, 0, 5, 1, 48000, 1, 0, 255, 0]);
-    put(36, &[4, 1, 7350, 7, 0, 0, 0, 3, 0, 0, 0, 1, 0, 511]);
-    put(50, &[1, 0, 3, 2, 0, 0, 0, 2, 0, 4, 0, 0, 3, 0]);
-    put(246, &[1, 70000, 1, 254]);
+    let streams: [[u32; STREAM_WORDS]; 3] = [
+        [2, 0, 6, 1, 1, 0, 0, 5, 1, 48000, 1, 0, 255, 0],
+        [4, 1, 7350, 7, 0, 0, 0, 3, 0, 0, 0, 1, 0, 511],
+        [1, 0, 3, 2, 0, 0, 0, 2, 0, 4, 0, 0, 3, 0],
+    ];
+    put(0, &[1, 0, 256, 1, 5, 1]);
+    put(ENDING_AT, &[1, 70000, 1, 254]);
+    put(LAYERS_AT, &[1, 0]);
+    put(STREAMS_AT, streams.as_flattened());
     let record = words::record(&expected).unwrap();
     assert!(record.is_sendable());
     assert_eq!(record.stream_count(), 3);
+    assert_eq!((record.other_bits, record.crc), (70000, 254));
     let audio = |stream: usize| &record.streams[stream].audio;
     assert_eq!(audio(0).form, Form::SbrOnPs(Frequency::Hertz(48000), 1));
     assert_eq!(audio(0).frame_length_flag, 1);
