@@ -60,7 +60,9 @@ module _ (s : List ℕ) (room : ℕ) (c : Point) {from : Mark} (mark : from ≡ 
     step-seen : stepWith (markOf c) p n (repliedBy (preparedOf (c .held)) seen) ≡ stepOf c (frame (seenAt s room c p n))
     unfolding seen
     step-seen =
-        ap (λ (z : Prepared). stepWith (markOf c) p n (record { verdict = verdictOf seen; sent = sentBy seen; prepared = z }))
+        ap
+        (λ (z : Prepared). stepWith (markOf c) p n
+        (record { verdict = verdictOf seen; sent = sentBy seen; prepared = z }))
         (then-prepared (c .held) seen)
 
     pub step-is : (map : List ℕ) (table : List (List ℕ)) {r : PreparedReply} {map′ : List ℕ} {table′ : List (List ℕ)}

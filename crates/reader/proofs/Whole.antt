@@ -167,7 +167,7 @@ module _ (s : List ℕ) (at n : ℕ) where
 
   -- accepted, the configuration is held with its table; refused, all is as it stood
   module _ (p : Prepared) (map : List ℕ) (table : List (List ℕ)) where
-    abbrev Left : Record → Plan → List ℕ → Answer Applied → Verdict → Type 0
+    abbrev pub Left : Record → Plan → List ℕ → Answer Applied → Verdict → Type 0
     Left r plan map′ y (Accepted k m sent) =
         Leaves p y map table
         (record { verdict = Accepted k m sent; sent = r; prepared = record { usable = true; plan = plan } })

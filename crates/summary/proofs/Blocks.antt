@@ -39,8 +39,8 @@ module _ {s : List ℕ} {c : Point} {map map′ : List ℕ} {table table′ : Li
   said-then said = rw (t .verdict) (said-is said (t .seen .reading))
 
 -- what was laid is a block
-pub block-laid : {s out out′ : List ℕ} {size used : ℕ} {from : Point} {reached : Mark} {held : Held} {before said : Bool}
-    (t : Bool) → reached .prepared ≡ preparedOf held
+pub block-laid : {s out out′ : List ℕ} {size used : ℕ} {from : Point} {reached : Mark} {held : Held}
+    {before said : Bool} (t : Bool) → reached .prepared ≡ preparedOf held
     → Laid framed saidThen 14336 size s 4368 out before from out′ used said (pointAt reached held)
     → size ≡ usable out → leb (used + 14336) size ≡ t
     → BlockPromise s from before out (record { reached = reached; held = held; said = said; bytes = used; ended = t })

@@ -112,8 +112,8 @@ fn said_after(said: bool, v: Verdict) -> bool
     }
 }
 
-// Where the summary is come to, what is held there, whether the want of a configuration was said, the bytes of text laid,
-// and whether no frame is left.
+// Where the summary is come to, what is held there, whether the want of a configuration was said, the bytes of text
+// laid, and whether no frame is left.
 struct Block {
     reached: Mark,
     held: Held,

@@ -31,14 +31,16 @@ going l =
 
 -- the frame that a turn took, from any point that the loop may have come to
 taken : (f : tie.After-found Inv-loop μ-loop) → let a = f .before .before .before .before in
-    let l = a .before .before .before .before in let s = l .before .before .before .before .before .args .capture .now in
+    let l = a .before .before .before .before in
+    let s = l .before .before .before .before .before .args .capture .now in
     (c : Point) → l .loop .reached ≡ markOf c
     → Took s 4368 c (l .loop .map) (a .advance .last .1 .1 .0) (l .loop .table) (a .advance .last .1 .1 .1 .0)
     (f .found .given .0 .1 .1 .0) (a .advance .result .sent) (a .advance .result .next)
 taken f c mark =
     let a = f .before .before .before .before in
     let l = a .before .before .before .before in
-    took _ 4368 c (l .loop .map) (l .loop .table) mark (a .advance .ensures) (l .loop .inv .0) _ _ _ (f .found .given .1)
+    took _ 4368 c (l .loop .map) (l .loop .table) mark (a .advance .ensures) (l .loop .inv .0) _ _ _
+    (f .found .given .1)
 
 loop-holds : tie.Need-loop-holds Inv-loop μ-loop
 loop-holds c = (
@@ -62,8 +64,8 @@ returns c =
           let g = l .loop .inv .3 p mark in
           let e = took-none s 4368 (g .point) (l .loop .map) (l .loop .table) (g .mark) (a .advance .ensures)
           (l .loop .inv .0) (c .enum-told .given .1) in
-          block-laid _ (g .mark) (left-none framed unchanged 26208 _ s 4368 (g .left) e) (l .before .block-room .ensures)
-          (le-leb _ _ h),
+          block-laid _ (g .mark) (left-none framed unchanged 26208 _ s 4368 (g .left) e)
+          (l .before .block-room .ensures) (le-leb _ _ h),
       omega (arith, l .loop .inv .2, l .before .block-room .ensures),
     )
 
@@ -73,7 +75,8 @@ lay-verdict-requires c κs =
     let a = f .before .before .before .before in
     let l = a .before .before .before .before in
     let g = going l in
-    (omega (arith, l .loop .inv .2), within (taken f (g .point) (g .mark)) (l .loop .inv .0) (a .advance .kept .1 .1 .0))
+    let t = taken f (g .point) (g .mark) in
+    (omega (arith, l .loop .inv .2), within t (l .loop .inv .0) (a .advance .kept .1 .1 .0))
 
 loop-less : tie.Need-loop-less Inv-loop μ-loop
 loop-less c =

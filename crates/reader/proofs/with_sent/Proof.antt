@@ -7,9 +7,11 @@ use Rattle.kernel.specs.Answer.{value, told, toldWith}
 use Rattle.kernel.specs.Reading.{run}
 use Rattle.config.specs.Mux.{streamMuxConfig}
 use Rattle.element.specs.declared.Verdict.{Verdict}
+use Rattle.reader.specs.declared.Prepared.{Prepared}
+use Rattle.reader.specs.Parts.{sentOf}
 use Rattle.reader.specs.Prepared.{unsentReply}
 use Rattle.reader.proofs.Plans.{plan-fits}
-use Rattle.reader.proofs.Whole.{sent-forward, sent-valid, sent-steady, sent-refused, sent-leaves}
+use Rattle.reader.proofs.Whole.{sent-forward, sent-valid, sent-steady, sent-refused, Left, sent-leaves}
 use Rattle.reader.proofs.with_sent.Statement.{statement}
 use Rattle.reader.proofs.with_sent.Tie as tie
 
@@ -51,21 +53,31 @@ finish-requires c κs =
       sent-steady (a .el .now) (a .c .at) (a .c .fields) (ran f) (s .pre .2),
     )
 
+-- what the walk behind the configuration leaves
+left : (t : tie.After-finish) → let pl = t .before .before in let g = pl .before .before .before .before .before in
+    let a = g .before .before .before .before .args in
+    Left (a .el .now) (a .c .at) (a .c .fields) (a .prepared) (a .map .now) (a .table .now)
+    (g .stream-mux-config .result .held) (pl .plan-of .result) (t .finish .last .1 .1 .1 .1 .0)
+    (sentOf (a .el .now) (a .c .at) (a .c .fields)) (t .finish .result)
+left t =
+    let pl = t .before .before in
+    let f = pl .before .before .before in
+    let s = f .before .before .before .before .before .before in
+    let a = s .args in
+    sent-leaves (a .el .now) (a .c .at) (a .c .fields) (a .prepared) (a .map .now) (a .table .now) _ _ _ (s .pre .1) (ran f)
+    _ (pl .plan-of .ensures) (t .finish .ensures)
+
 returns-2 : tie.Need-returns-2
 returns-2 c =
     let q = c .enum-told .given .1 in
     let t = c .before .before .before .before in
     let pl = t .before .before in
     let f = pl .before .before .before in
-    let g = f .before .before in
-    let s = g .before .before .before .before in
-    let a = s .args in
-    let r = g .stream-mux-config .result .held in
-    let l = rw q at (sent-leaves (a .el .now) (a .c .at) (a .c .fields) (a .prepared) (a .map .now) (a .table .now) r _ _
-    (s .pre .1) (ran f) _ (pl .plan-of .ensures) (t .finish .ensures)) in
-    let filled = rw (f .reached .given .1) at (g .stream-mux-config .ensures .0 .1) in (
-      ap (λ (v : Verdict). record { verdict = v; sent = r; prepared = record { usable = true; plan = pl .plan-of .result } })
-          q ∙ l .0,
+    let g = f .before .before .stream-mux-config in
+    let l = rw q at (left t) in
+    let p : Prepared = record { usable = true; plan = pl .plan-of .result } in
+    let filled = rw (f .reached .given .1) at (g .ensures .0 .1) in (
+      ap (λ (v : Verdict). record { verdict = v; sent = g .result .held; prepared = p }) q ∙ l .0,
       l .1,
       filled ∙ l .2,
     )
@@ -74,15 +86,9 @@ returns-3 : tie.Need-returns-3
 returns-3 c =
     let q = c .before .enum-told2 .given .1 in
     let t = c .before .before .before .before .before in
-    let pl = t .before .before in
-    let f = pl .before .before .before in
-    let g = f .before .before in
-    let s = g .before .before .before .before in
-    let a = s .args in
-    let r = g .stream-mux-config .result .held in
-    let l = rw q at (sent-leaves (a .el .now) (a .c .at) (a .c .fields) (a .prepared) (a .map .now) (a .table .now) r _ _
-    (s .pre .1) (ran f) _ (pl .plan-of .ensures) (t .finish .ensures)) in
-    (c .unsent2 .ensures ∙ ap (λ (v : Verdict). unsentReply v (a .prepared)) q ∙ l .0, l .1, l .2)
+    let p = t .before .before .before .before .before .before .before .before .before .before .before .args .prepared in
+    let l = rw q at (left t) in
+    (c .unsent2 .ensures ∙ ap (λ (v : Verdict). unsentReply v p) q ∙ l .0, l .1, l .2)
 
 pub with-sent-spec : {M : Type 1} → statement M
 with-sent-spec =

@@ -94,7 +94,8 @@ all-spec =
     tie.close
     (tie.spec Inv-loop μ-loop (λ c κs. search needs) (λ c κs. search needs) loop-holds advance-requires
     (λ c. search needs) (λ c. search needs)
-    (λ c. omega (arith, c .before .before .before .before .advance .kept .1 .1 .0, looped c .loop .inv .0, began c .pre .0))
+    (λ c. let k = c .before .before .before .before .advance .kept .1 .1 .0 in
+    omega (arith, k, looped c .loop .inv .0, began c .pre .0))
     (λ c. omega (arith, looped c .loop .inv .1, began c .pre .1))
     (λ c. omega (arith, looped c .loop .inv .2, began c .pre .2))
     (λ c. omega (arith, looped c .loop .inv .3, began c .pre .3))

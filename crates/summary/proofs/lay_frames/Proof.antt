@@ -26,14 +26,15 @@ abbrev μ-loop : tie.MeasureT-loop
 
 -- the frame that a turn took
 taken : (f : tie.After-found Inv-loop μ-loop) → let a = f .before .before .before .before in
-    let l = a .before .before .before .before in let s = l .before .before .before .before .before .args .capture .now in
+    let l = a .before .before .before .before in
+    let s = l .before .before .before .before .before .args .capture .now in
     Took s 4368 (pointAt (l .loop .reached) (l .loop .held)) (l .loop .map) (a .advance .last .1 .1 .0) (l .loop .table)
     (a .advance .last .1 .1 .1 .0) (f .found .given .0 .1 .1 .0) (a .advance .result .sent) (a .advance .result .next)
 taken f =
     let a = f .before .before .before .before in
     let l = a .before .before .before .before in
-    took _ 4368 _ (l .loop .map) (l .loop .table) (mark-at _ _ (l .loop .inv .3)) (a .advance .ensures) (l .loop .inv .0)
-    _ _ _ (f .found .given .1)
+    took _ 4368 _ (l .loop .map) (l .loop .table) (mark-at _ _ (l .loop .inv .3)) (a .advance .ensures)
+    (l .loop .inv .0) _ _ _ (f .found .given .1)
 
 loop-holds : tie.Need-loop-holds Inv-loop μ-loop
 loop-holds c = (search needs, search needs, search needs, search needs, left-all framed saidThen 14336 _ _ 4368)
@@ -98,4 +99,5 @@ lay-frames-spec =
     tie.close
     (tie.spec Inv-loop μ-loop (λ c κs. search needs) loop-holds (λ c. search needs) advance-requires
     (λ c. search needs) (λ c. search needs) (λ c. search needs) (λ c. search needs) returns (λ c κs. search needs)
-    (λ c κs. search needs) (λ c κs. search needs) loop-less loop-again (λ c. search needs) (λ c. search needs) returns-2)
+    (λ c κs. search needs) (λ c κs. search needs) loop-less loop-again (λ c. search needs) (λ c. search needs)
+    returns-2)
