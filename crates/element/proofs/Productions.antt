@@ -1,5 +1,5 @@
 -- What every production of an element keeps to: it refuses by a number of 01's table, by 4 only where nothing is held,
--- and what applies is valid.
+-- each item has the content of its kind, and what applies is valid.
 use mathlib.Core.Path.{_≡_, refl, sym, _∙_}
 use mathlib.Core.Bool.{Bool, true, false, not, _||_}
 use mathlib.Core.List.{List, [], _∷_, _++_}
@@ -11,7 +11,7 @@ use borrow.Author.Tests.{leb-true, eqb-true, eqb-false, ne-eqb, not-true}
 use Rattle.kernel.specs.declared.Window.the-variants.{Open}
 use Rattle.kernel.specs.Bits.{bitAt, valueAt}
 use Rattle.kernel.specs.Reading.{_>>=_, _>>_, give, field, need, fit, run}
-use Rattle.kernel.specs.Element.{walk}
+use Rattle.kernel.specs.Element.{Content, Element, walk}
 use Rattle.kernel.proofs.Values.{value-lt, value-one}
 use Rattle.kernel.proofs.Tests as tests
 use Rattle.kernel.proofs.Tests.{three, neither}
@@ -25,6 +25,7 @@ use Rattle.element.specs.declared.Held.{Held}
 use Rattle.element.specs.Mux.{kindU, Applied, slotFrom, muxSlotLengthBytes, slotOf, streamsOf, slotsOf}
 use Rattle.element.specs.Mux.{payloadLengthInfo, payloadMux, subframe, subframes, otherData, byteAlignment, rest}
 use Rattle.element.specs.Mux.{applied, usable, useSameStreamMux, afterFlag, audioMuxElement}
+use Rattle.element.specs.Left.{contentOf}
 use Rattle.element.specs.Reply.{answer}
 
 -- ---- what follows the configuration
@@ -43,35 +44,42 @@ unfolding payloadLengthInfo
 lengths ws [] = gives tt
 lengths ws (s ∷ ss) = on _ (slot _ _) λ w _. lengths (ws ++ (w ∷ [])) ss
 
-payloads : (i : ℕ) (ws : List ℕ) → KeepsAll Numbered Any (payloadMux i ws)
+abbrev pub OfKind : Content → ℕ → Type 0
+OfKind c kind = c ≡ contentOf kind
+
+-- with P of its answer
+abbrev Produces : {A : Type 0} → (A → Type 0) → Element A → Type 0
+Produces P e = KeepsAll Numbered OfKind P e
+
+payloads : (i : ℕ) (ws : List ℕ) → Produces Any (payloadMux i ws)
 unfolding KeepsAll payloadMux
 payloads i [] = tt
-payloads i (w ∷ ws) = payloads (i + 1) ws
+payloads i (w ∷ ws) = (refl, payloads (i + 1) ws)
 
-one-subframe : (ss : List Stream) → KeepsAll Numbered Any (subframe (slotsOf ss))
+one-subframe : (ss : List Stream) → Produces Any (subframe (slotsOf ss))
 unfolding KeepsAll subframe
 one-subframe ss =
-    keeps-map Numbered Any (λ ws. KeepsAll Numbered Any (payloadMux 0 ws)) _ (lengths [] ss .is) (λ ws _. payloads 0 ws)
+    (refl, keeps-map Numbered Any (λ ws. Produces Any (payloadMux 0 ws)) _ (lengths [] ss .is) (λ ws _. payloads 0 ws))
 
-all-subframes : (n : ℕ) (ss : List Stream) → KeepsAll Numbered Any (subframes n (slotsOf ss))
+all-subframes : (n : ℕ) (ss : List Stream) → Produces Any (subframes n (slotsOf ss))
 unfolding KeepsAll subframes
 all-subframes zero ss = tt
-all-subframes (suc n) ss = keeps-follow Numbered Any Any _ _ (one-subframe ss) (λ _ _. all-subframes n ss)
+all-subframes (suc n) ss = keeps-follow Numbered OfKind Any Any _ _ (one-subframe ss) (λ _ _. all-subframes n ss)
 
-other-data : (t : Bool) (w : ℕ) → KeepsAll Numbered Any (otherData t w)
+other-data : (t : Bool) (w : ℕ) → Produces Any (otherData t w)
 unfolding KeepsAll otherData
-other-data true w = tt
+other-data true w = (refl, tt)
 other-data false w = tt
 
-alignment : KeepsAll Numbered Any byteAlignment
+alignment : Produces Any byteAlignment
 unfolding KeepsAll byteAlignment
-alignment = λ p. tt
+alignment = λ p. (refl, tt)
 
-the-rest : (n : ℕ) (ss : List Stream) (t : Bool) (w : ℕ) → KeepsAll Numbered Any (rest n (slotsOf ss) t w)
+the-rest : (n : ℕ) (ss : List Stream) (t : Bool) (w : ℕ) → Produces Any (rest n (slotsOf ss) t w)
 unfolding rest
 the-rest n ss t w =
-    keeps-follow Numbered Any Any _ _ (all-subframes n ss)
-    (λ _ _. keeps-follow Numbered Any Any _ _ (other-data t w) (λ _ _. alignment))
+    keeps-follow Numbered OfKind Any Any _ _ (all-subframes n ss)
+    (λ _ _. keeps-follow Numbered OfKind Any Any _ _ (other-data t w) (λ _ _. alignment))
 
 -- ---- what applies
 
@@ -83,17 +91,20 @@ Applies held false r = (r ≡ held .config) × (usable held ≡ true)
 abbrev pub AppliedOk : Held → Applied → Type 0
 AppliedOk held a = Applies held (a .sent) (a .config)
 
-is-applied : (held : Held) (a : Applied) → AppliedOk held a → KeepsAll Numbered (AppliedOk held) (applied a)
+is-applied : (held : Held) (a : Applied) → AppliedOk held a → Produces (AppliedOk held) (applied a)
 unfolding KeepsAll applied
-is-applied held a h = keeps-follow Numbered Any (AppliedOk held) _ _ (the-rest _ (streamsOf (a .config)) _ _) (λ _ _. h)
+is-applied held a h =
+    keeps-follow Numbered OfKind Any (AppliedOk held) _ _ (the-rest _ (streamsOf (a .config)) _ _) (λ _ _. h)
 
 after-flag : (held : Held) (t : Bool) → (t ≡ true → usable held ≡ true)
-    → KeepsAll Numbered (AppliedOk held) (afterFlag t (held .config))
+    → Produces (AppliedOk held) (afterFlag t (held .config))
 unfolding KeepsAll afterFlag
 after-flag held true h = is-applied held _ (refl, h refl)
-after-flag held false h =
-    keeps-map Numbered ReadOk (λ x. KeepsAll Numbered (AppliedOk held) (applied (record { sent = true; config = x })))
-    _ (mux .is) (λ x k. is-applied held _ k)
+after-flag held false h = (
+  refl,
+  keeps-map Numbered ReadOk (λ x. Produces (AppliedOk held) (applied (record { sent = true; config = x })))
+      _ (mux .is) (λ x k. is-applied held _ k),
+)
 
 -- ---- the flag
 
@@ -133,16 +144,17 @@ flag s held =
 
 -- ---- the element
 
-walked : (s : List ℕ) (held : Held) → Come (Refuses s held) (AppliedOk held) (walk s (audioMuxElement held) 0 0)
+pub walked : (s : List ℕ) (held : Held)
+    → Come (Refuses s held) OfKind (AppliedOk held) (walk s (audioMuxElement held) 0 0)
 unfolding walk audioMuxElement
 walked s held =
-    come-next (Refuses s held) (AppliedOk held) (Flagged (usable held)) kindU 0
+    come-next (Refuses s held) OfKind (AppliedOk held) (Flagged (usable held)) kindU 0
     (run s (useSameStreamMux (usable held)) 0 0)
-    (λ u at n. walk s (afterFlag (eqb u 1) (held .config)) at n) (flag s held)
+    (λ u at n. walk s (afterFlag (eqb u 1) (held .config)) at n) refl (flag s held)
     (λ u at n h.
-    come-so Numbered (Refuses s held) (AppliedOk held) (walk s (afterFlag (eqb u 1) (held .config)) at n)
+    come-so Numbered (Refuses s held) OfKind (AppliedOk held) (walk s (afterFlag (eqb u 1) (held .config)) at n)
     (behind-flag s held)
-    (walk-keeps Numbered (AppliedOk held) refl refl s (afterFlag (eqb u 1) (held .config)) at n
+    (walk-keeps Numbered OfKind (AppliedOk held) refl refl s (afterFlag (eqb u 1) (held .config)) at n
     (after-flag held (eqb u 1) h)))
 
 pub answered : (s : List ℕ) (held : Held) (room : ℕ) → Told (Refuses s held) (AppliedOk held) (answer s held room)
@@ -152,5 +164,5 @@ answered s held room =
     (omega arith, omega arith, λ e. absurd (omega arith))
     (chosen (Told (Refuses s held) (AppliedOk held)) (eqb (length s) 0
     || ltb 8191 (length s)) _ _ (omega arith, omega arith, λ e. absurd (omega arith))
-    (told-end (Refuses s held) (AppliedOk held) (behind-flag s held 15 refl) (8 * length s)
+    (told-end (Refuses s held) OfKind (AppliedOk held) (behind-flag s held 15 refl) (8 * length s)
     (walk s (audioMuxElement held) 0 0) (walked s held)))

@@ -1,8 +1,8 @@
--- What all answers of a tree keep to: R of the number of every refusal, and P of every answer, each field being below 2
--- ^ its width.
+-- What a tree keeps to: R of the number of every refusal, P of every answer, each field being below 2 ^ its width, and
+-- of an element J of the content and kind of every item.
 use mathlib.Core.Path.{_≡_, refl}
 use mathlib.Core.Bool.{Bool, true, false, cond}
-use mathlib.Core.List.{List}
+use mathlib.Core.List.{List, [], _∷_}
 use Prim.Native.Nat.{ℕ, _+_, _*_, _<_, _^_, min}
 use lib.Dec.{ltb, eqb}
 use lib.ListN.{length}
@@ -12,8 +12,9 @@ use Rattle.kernel.specs.Bits.{valueAt}
 use Rattle.kernel.specs.Reading.{Reading, give, refuse, refuseAfter, fieldThen, passThen, hereThen, _>>=_, _>>_}
 use Rattle.kernel.specs.Reading.{field, pass, here, choose, need, Outcome, gave, refused, Fit, fits, short}
 use Rattle.kernel.specs.Reading.{passes, fit, onFit, run}
-use Rattle.kernel.specs.Element.{Element, done, part, over, spot, Item, Passage, came, fell, withItem, overFit}
-use Rattle.kernel.specs.Element.{next, walk, follow, Answer, accepted, rejected, ended}
+use Rattle.kernel.specs.Element.{Content, fields, passed, Item, Element, done, part, over, spot, follow}
+use Rattle.kernel.specs.Element.{Passage, came, fell, withItem, overFit, next, walk}
+use Rattle.kernel.specs.Element.{Answer, accepted, rejected, ended, itemsOf}
 use Rattle.kernel.proofs.Values.{value-lt}
 
 pub chosen : {A : Type 0} (P : A → Type 0) (t : Bool) (a b : A) → P a → P b → P (cond t a b)
@@ -150,67 +151,81 @@ module _ {A : Type 0} (R : ℕ → Type 0) (P : A → Type 0) where
 
 -- ---- elements
 
-unfoldable pub KeepsAll : {A : Type 0} → (ℕ → Type 0) → (A → Type 0) → Element A → Type 0
-KeepsAll R P (done a) = P a
-KeepsAll R P (part B kind m f) = Keeps R (λ b. KeepsAll R P (f b)) m
-KeepsAll R P (over c kind stream w e) = KeepsAll R P e
-KeepsAll R P (spot f) = (p : ℕ) → KeepsAll R P (f p)
+-- J of the content and kind of each item
+unfoldable pub Each : (Content → ℕ → Type 0) → List Item → Type 0
+Each J [] = Unit {0}
+Each J (it ∷ its) = J (it .content) (it .kind) × Each J its
 
-module _ {A B : Type 0} (R : ℕ → Type 0) (P : A → Type 0) (Q : B → Type 0) where
-  pub keeps-follow : (e : Element A) (g : A → Element B) → KeepsAll R P e → ((a : A) → P a → KeepsAll R Q (g a))
-      → KeepsAll R Q (follow e g)
+-- a tree that refuses by R, makes items of J and answers by P
+unfoldable pub KeepsAll : {A : Type 0} → (ℕ → Type 0) → (Content → ℕ → Type 0) → (A → Type 0) → Element A → Type 0
+KeepsAll R J P (done a) = P a
+KeepsAll R J P (part B kind m f) = J fields kind × Keeps R (λ b. KeepsAll R J P (f b)) m
+KeepsAll R J P (over c kind stream w e) = J (passed c) kind × KeepsAll R J P e
+KeepsAll R J P (spot f) = (p : ℕ) → KeepsAll R J P (f p)
+
+module _ {A B : Type 0} (R : ℕ → Type 0) (J : Content → ℕ → Type 0) (P : A → Type 0) (Q : B → Type 0) where
+  pub keeps-follow : (e : Element A) (g : A → Element B) → KeepsAll R J P e → ((a : A) → P a → KeepsAll R J Q (g a))
+      → KeepsAll R J Q (follow e g)
   unfolding KeepsAll follow
   keeps-follow (done a) g p q = q a p
-  keeps-follow (part C kind m f) g p q =
-      keeps-map R (λ b. KeepsAll R P (f b)) (λ b. KeepsAll R Q (follow (f b) g)) m p (λ b h. keeps-follow (f b) g h q)
-  keeps-follow (over c kind stream w e) g p q = keeps-follow e g p q
+  keeps-follow (part C kind m f) g p q = (
+    p .0,
+    keeps-map R (λ b. KeepsAll R J P (f b)) (λ b. KeepsAll R J Q (follow (f b) g)) m (p .1)
+        (λ b h. keeps-follow (f b) g h q),
+  )
+  keeps-follow (over c kind stream w e) g p q = (p .0, keeps-follow e g (p .1) q)
   keeps-follow (spot f) g p q = λ v. keeps-follow (f v) g (p v) q
 
-module _ {A : Type 0} (R : ℕ → Type 0) (P : A → Type 0) where
-  abbrev pub Come : Passage A → Type 0
-  Come (came a its at n) = P a
-  Come (fell r its) = R (r .refusal .number)
+-- an answer
+abbrev pub Told : {A : Type 0} → (ℕ → Type 0) → (A → Type 0) → Answer A → Type 0
+Told R P (accepted a its n) = P a
+Told R P (rejected r its) = R (r .refusal .number)
 
-  come-item : (it : Item) (x : Passage A) → Come x → Come (withItem it x)
-  unfolding withItem
-  come-item it (came a its at n) p = p
-  come-item it (fell r its) p = p
+module _ {A : Type 0} (R : ℕ → Type 0) (J : Content → ℕ → Type 0) (P : A → Type 0) where
+  abbrev pub Come : Passage A → Type 0
+  Come (came a its at n) = P a × Each J its
+  Come (fell r its) = R (r .refusal .number) × Each J its
+
+  come-item : (it : Item) (x : Passage A) → J (it .content) (it .kind) → Come x → Come (withItem it x)
+  unfolding withItem Each
+  come-item it (came a its at n) j p = (p .0, (j, p .1))
+  come-item it (fell r its) j p = (p .0, (j, p .1))
 
   come-fit : (x : Fit) (at n : ℕ) (o : Passage A) → FitKept R x → Come o → Come (overFit x at n o)
-  unfolding overFit
+  unfolding overFit Each
   come-fit fits at n o f p = p
-  come-fit (short m) at n o f p = f
+  come-fit (short m) at n o f p = (f, tt)
 
-  pub come-next : {B : Type 0} (Q : B → Type 0) (kind at : ℕ) (o : Outcome B) (f : B → ℕ → ℕ → Passage A) → Out R Q o
-      → ((b : B) (at′ n′ : ℕ) → Q b → Come (f b at′ n′)) → Come (next kind at o f)
-  unfolding next
-  come-next Q kind at (gave b at′ n′) f p q = come-item _ (f b at′ n′) (q b at′ n′ p)
-  come-next Q kind at (refused r) f p q = p
+  pub come-next : {B : Type 0} (Q : B → Type 0) (kind at : ℕ) (o : Outcome B) (f : B → ℕ → ℕ → Passage A)
+      → J fields kind → Out R Q o → ((b : B) (at′ n′ : ℕ) → Q b → Come (f b at′ n′)) → Come (next kind at o f)
+  unfolding next Each
+  come-next Q kind at (gave b at′ n′) f j p q = come-item _ (f b at′ n′) j (q b at′ n′ p)
+  come-next Q kind at (refused r) f j p q = (p, tt)
 
   module _ (three : R 3) (ten : R 10) (s : List ℕ) where
-    pub walk-keeps : (e : Element A) (at n : ℕ) → KeepsAll R P e → Come (walk s e at n)
-    unfolding KeepsAll walk
-    walk-keeps (done a) at n p = p
+    pub walk-keeps : (e : Element A) (at n : ℕ) → KeepsAll R J P e → Come (walk s e at n)
+    unfolding KeepsAll walk Each
+    walk-keeps (done a) at n p = (p, tt)
     walk-keeps (part B kind m f) at n p =
-        come-next (λ b. KeepsAll R P (f b)) kind at (run s m at n) (λ b at′ n′. walk s (f b) at′ n′)
-        (run-keeps R (λ b. KeepsAll R P (f b)) three ten s m at n p)
+        come-next (λ b. KeepsAll R J P (f b)) kind at (run s m at n) (λ b at′ n′. walk s (f b) at′ n′) (p .0)
+        (run-keeps R (λ b. KeepsAll R J P (f b)) three ten s m at n (p .1))
         (λ b at′ n′ h. walk-keeps (f b) at′ n′ h)
     walk-keeps (over c kind stream w e) at n p =
         come-fit (fit Open (8 * length s) (at + w)) at n _ (fit-kept R three ten Open (8 * length s) (at + w))
-        (come-item _ (walk s e (at + w) n) (walk-keeps e (at + w) n p))
+        (come-item _ (walk s e (at + w) n) (p .0) (walk-keeps e (at + w) n (p .1)))
     walk-keeps (spot f) at n p = walk-keeps (f at) at n (p at)
 
-  -- an answer
-  abbrev pub Told : Answer A → Type 0
-  Told (accepted a its n) = P a
-  Told (rejected r its) = R (r .refusal .number)
+  pub told-end : R 15 → (bits : ℕ) (x : Passage A) → Come x → Told R P (ended bits x)
+  told-end fifteen bits (came a its at n) p = chosen (Told R P) (eqb at bits) _ _ (p .0) fifteen
+  told-end fifteen bits (fell r its) p = p .0
 
-  pub told-end : R 15 → (bits : ℕ) (x : Passage A) → Come x → Told (ended bits x)
-  told-end fifteen bits (came a its at n) p = chosen Told (eqb at bits) _ _ p fifteen
-  told-end fifteen bits (fell r its) p = p
+  pub each-end : (bits : ℕ) (x : Passage A) → Come x → Each J (itemsOf (ended bits x))
+  each-end bits (came a its at n) p = chosen (λ x. Each J (itemsOf x)) (eqb at bits) _ _ (p .1) (p .1)
+  each-end bits (fell r its) p = p .1
 
 -- what follows from R of every refusal
-pub come-so : {A : Type 0} (R S : ℕ → Type 0) (P : A → Type 0) (x : Passage A) → ((m : ℕ) → R m → S m) → Come R P x
-    → Come S P x
-come-so R S P (came a its at n) f p = p
-come-so R S P (fell r its) f p = f (r .refusal .number) p
+pub come-so : {A : Type 0} (R S : ℕ → Type 0) (J : Content → ℕ → Type 0) (P : A → Type 0) (x : Passage A)
+    → ((m : ℕ) → R m → S m) → Come R J P x
+    → Come S J P x
+come-so R S J P (came a its at n) f p = p
+come-so R S J P (fell r its) f p = (f (r .refusal .number) (p .0), p .1)
