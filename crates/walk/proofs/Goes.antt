@@ -255,32 +255,6 @@ pub goes-back : {A : Type 0} {s : List ℕ} (e : Element A) (at n k : ℕ) (stor
     → Goes s e at n k store map o out
 goes-back e at n k store map p = record { told = sym (p .0); stored = sym (p .1) }
 
--- one payload after another
-module _ {s : List ℕ} {at n k : ℕ} {store : Bool} {map : List ℕ} {o : Told ℕ} {out : List ℕ} (ws : List ℕ)
-    (m i : ℕ) where
-  pub payloads-done : m ≤ i → Goes s (payloadMux i (drop i (take m ws))) at n k store map o out
-      → (value k at n ≡ o) × (map ≡ out)
-  unfolding payloadMux
-  payloads-done h g = goes-done tt (rw (drop-of-length-le (take m ws) {i = i} (omega (arith, length-take m ws))) at g)
-
-  module _ (h : i < m) (l : m ≤ length ws) {map′ : List ℕ} where
-    -- the payload of stream i, as a callee passes it over, and those after it
-    pub payloads-turn : {k′ at′ n′ : ℕ}
-        → Goes s (passOver closed kindP i (getD ws i 0)) at n k store map (value k′ at′ n′) map′
-        → Goes s (payloadMux i (drop i (take m ws))) at n k store map o out
-        → Goes s (payloadMux (i + 1) (drop (i + 1) (take m ws))) at′ n′ k′ store map′ o out
-    unfolding payloadMux follow
-    payloads-turn c g =
-        goes-through (passOver closed kindP i (getD ws i 0)) (λ _. payloadMux (i + 1) (drop (i + 1) (take m ws))) c
-        (rw (next-one 0 ws m i h l) at g)
-
-    pub payloads-off : {x : Refusal} → Goes s (passOver closed kindP i (getD ws i 0)) at n k store map (refusal x) map′
-        → Goes s (payloadMux i (drop i (take m ws))) at n k store map o out → (refusal x ≡ o) × (map′ ≡ out)
-    unfolding payloadMux follow
-    payloads-off c g =
-        goes-off (passOver closed kindP i (getD ws i 0)) (λ _. payloadMux (i + 1) (drop (i + 1) (take m ws))) c
-        (rw (next-one 0 ws m i h l) at g)
-
 -- ---- from a step and the rest to the whole
 
 module _ {A B : Type 0} {s : List ℕ} {at n k : ℕ} {store : Bool} {map : List ℕ} {o : Told ℕ} {out : List ℕ} where
@@ -295,29 +269,60 @@ pub goes-from : {A : Type 0} {s : List ℕ} {e : Element A} {at n k : ℕ} {stor
 goes-from {s} {e} {at} {n} {k} {store} {o = o} {out = out} g q =
     subst (λ (m : List ℕ). Goes s e at n k store m o out) q g
 
--- one subframe after another
-module _ {s : List ℕ} {at n k : ℕ} {store : Bool} {map : List ℕ} {o : Told ℕ} {out : List ℕ}
-    (slots : List (Reading ℕ)) where
-  pub subframes-done : (m : ℕ) → m ≡ 0 → Goes s (subframes m slots) at n k store map o out
-      → (value k at n ≡ o) × (map ≡ out)
-  unfolding subframes
-  subframes-done zero h g = goes-done tt g
-  subframes-done (suc m) h g = absurd (omega arith)
+-- ---- loops
 
-  pub subframes-turn : (m : ℕ) {k′ at′ n′ : ℕ} {map′ : List ℕ} → 0 < m
-      → Goes s (subframe slots) at n k store map (value k′ at′ n′) map′
-      → Goes s (subframes m slots) at n k store map o out → Goes s (subframes (m - 1) slots) at′ n′ k′ store map′ o out
-  unfolding subframes
-  subframes-turn zero h c g = absurd (omega arith)
-  subframes-turn (suc m) h c g =
-      let e : suc m - 1 ≡ m = omega arith in rw e (goes-through (subframe slots) (λ _. subframes m slots) c g)
+-- what a loop keeps that walks d: e is left of it, at bit `at` with n fields read and k items made
+pub record Going (s : List ℕ) (store : Bool) (d : Element Unit) (at₀ n₀ k₀ : ℕ) (map₀ : List ℕ) (e : Element Unit)
+    (at n k : ℕ) (map : List ℕ) : Type 0 where
+  pub same : length map ≡ length map₀
+  pub stands : Stands s at n
+  pub goes : Goes s e at n k store map (toldPassage k₀ (walk s d at₀ n₀))
+      (storedIf store map₀ k₀ (made (walk s d at₀ n₀)))
 
-  pub subframes-off : (m : ℕ) {x : Refusal} {map′ : List ℕ} → 0 < m
-      → Goes s (subframe slots) at n k store map (refusal x) map′
-      → Goes s (subframes m slots) at n k store map o out → (refusal x ≡ o) × (map′ ≡ out)
-  unfolding subframes
-  subframes-off zero h c g = absurd (omega arith)
-  subframes-off (suc m) h c g = goes-off (subframe slots) (λ _. subframes m slots) c g
+module _ {s : List ℕ} {store : Bool} where
+  pub going-itself : {d : Element Unit} {at n k : ℕ} {map : List ℕ} → Stands s at n
+      → Going s store d at n k map d at n k map
+  going-itself h = record { same = refl; stands = h; goes = goes-itself }
+
+  module _ {d : Element Unit} {at₀ n₀ k₀ : ℕ} {map₀ : List ℕ} {e : Element Unit} {at n k : ℕ} {map : List ℕ} where
+    pub going-done : e ≡ done tt → Going s store d at₀ n₀ k₀ map₀ e at n k map
+        → Goes s d at₀ n₀ k₀ store map₀ (value k at n) map
+    going-done q g = goes-back d at₀ n₀ k₀ store map₀ (goes-done tt (rw q at (g .goes)))
+
+    -- a turn that walks c, of which a callee says how it goes
+    module _ (c : Element Unit) (f : Unit → Element Unit) (q : e ≡ follow c f) {map′ : List ℕ} where
+      pub going-on : {at′ n′ k′ : ℕ} → Goes s c at n k store map (value k′ at′ n′) map′ → length map′ ≡ length map
+          → Going s store d at₀ n₀ k₀ map₀ e at n k map → Going s store d at₀ n₀ k₀ map₀ (f tt) at′ n′ k′ map′
+      going-on t l g =
+          record {
+            same = l ∙ g .same;
+            stands = goes-steady t (g .stands);
+            goes = goes-through c f t (rw q at (g .goes));
+          }
+
+      pub going-off : {x : Refusal} → Goes s c at n k store map (refusal x) map′
+          → Going s store d at₀ n₀ k₀ map₀ e at n k map → Goes s d at₀ n₀ k₀ store map₀ (refusal x) map′
+      going-off t g = goes-back d at₀ n₀ k₀ store map₀ (goes-off c f t (rw q at (g .goes)))
+
+pub payloads-none : (ws : List ℕ) (m i : ℕ) → m ≤ i → payloadMux i (drop i (take m ws)) ≡ done tt
+unfolding payloadMux
+payloads-none ws m i h = rw (drop-of-length-le (take m ws) {i = i} (omega (arith, length-take m ws)))
+
+pub payloads-more : (ws : List ℕ) (m i : ℕ) → i < m → m ≤ length ws
+    → payloadMux i (drop i (take m ws))
+    ≡ follow (passOver closed kindP i (getD ws i 0)) (λ _. payloadMux (i + 1) (drop (i + 1) (take m ws)))
+unfolding payloadMux follow
+payloads-more ws m i h l = rw (next-one 0 ws m i h l)
+
+pub subframes-none : (slots : List (Reading ℕ)) (m : ℕ) → m ≡ 0 → subframes m slots ≡ done tt
+unfolding subframes
+subframes-none slots m h = rw h
+
+pub subframes-more : (slots : List (Reading ℕ)) (m : ℕ) → 0 < m
+    → subframes m slots ≡ follow (subframe slots) (λ _. subframes (m - 1) slots)
+unfolding subframes
+subframes-more slots zero h = absurd (omega arith)
+subframes-more slots (suc m) h = let e : suc m - 1 ≡ m = omega arith in rw e
 
 -- a reading that came to a value went forward
 pub ahead : {A : Type 0} {s : List ℕ} {m : Reading A} {at n : ℕ} {a : A} {at′ n′ : ℕ}

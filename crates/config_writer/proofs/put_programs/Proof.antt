@@ -1,22 +1,32 @@
 -- `config_writer::put_programs` meets its contract.
 use mathlib.Core.Path.{_≡_, refl}
-use Prim.Native.Nat.{_+_, _*_, _≤_}
+use mathlib.Core.List.{List}
+use Prim.Native.Nat.{ℕ, _+_, _*_, _≤_}
 use native.Mathlib.Omega.{arith}
 use Rattle.kernel.proofs.Laid.{put-none, Left, left-all, left-put, put-length}
 use Rattle.config.specs.Mux.{programsBits}
 use Rattle.config_writer.proofs.Turns.{programs-turn, few-streams}
 use lib.ListN.{getD}
+use Rattle.records.specs.declared.Stream.{Stream}
 use Rattle.records.specs.Table.{streamsIn}
 use Rattle.records.proofs.Tables.{streams-next}
 use borrow.Author.Needs.{needs}
 use Rattle.config_writer.proofs.put_programs.Statement.{statement}
 use Rattle.config_writer.proofs.put_programs.Tie as tie
 
+-- n + 1 programs put up to program p, whose first stream is `next`
+record Putting (out₀ : List ℕ) (at version n : ℕ) (streams : List Stream) (layers out : List ℕ) (to p next left : ℕ)
+    : Type 0 where
+  ahead : left + p ≡ n + 1
+  first : next ≡ streamsIn layers n p
+  few : next ≤ 16
+  bits : to ≤ at + 3 * p + 177 * next
+  put : Left out₀ at (programsBits version (n + 1) 0 0 layers streams) out to
+      (programsBits version left p next layers streams)
+
 abbrev Inv-loop : tie.InvT-loop
 Inv-loop out₀ at version n streams layers to₀ p₀ next₀ left₀ out to p next left =
-    (left + p ≡ n + 1) × (next ≡ streamsIn layers n p) × (next ≤ 16) × (to ≤ at + 3 * p + 177 * next)
-    × Left out₀ at (programsBits version (n + 1) 0 0 layers streams) out to
-    (programsBits version left p next layers streams)
+    Putting out₀ at version n streams layers out to p next left
 
 abbrev μ-loop : tie.MeasureT-loop
 μ-loop out₀ at version n streams layers to₀ p₀ next₀ left₀ out to p next left = left
@@ -27,11 +37,12 @@ room : (c : tie.In-loop Inv-loop μ-loop) → let l = c .before in
 room c =
     let l = c .before in
     let a = l .before .before .args in
-    omega (arith, l .loop .inv .1, few-streams (a .t5) (a .n) (l .loop .p) (omega arith) (omega arith) (omega arith))
+    omega (arith, l .loop .inv .first, few-streams (a .t5) (a .n) (l .loop .p) (omega arith) (omega arith) (omega arith))
 
 loop-holds : tie.Need-loop-holds Inv-loop μ-loop
 unfolding streamsIn
-loop-holds c = (omega arith, refl, omega arith, omega arith, left-all)
+loop-holds c =
+    record { ahead = omega arith; first = refl; few = omega arith; bits = omega arith; put = left-all }
 
 add-put-layers : tie.Need-add-put-layers Inv-loop μ-loop
 add-put-layers c = omega (arith, room (c .before .before .before .before .before))
@@ -40,7 +51,7 @@ put-layers-requires : tie.Need-put-layers-requires Inv-loop μ-loop
 put-layers-requires c κs =
     let f = c .before .before .before in
     let i = f .before .before in
-    (omega (arith, f .put .ensures .0, room i, i .before .loop .inv .3), omega (arith, room i))
+    (omega (arith, f .put .ensures .0, room i, i .before .loop .inv .bits), omega (arith, room i))
 
 add-next : tie.Need-add-next Inv-loop μ-loop
 add-next c = omega (arith, room (c .before .before .before .before .before .before .before .before))
@@ -55,21 +66,23 @@ loop-again c =
     let i = g .before .before in
     let l = i .before in
     let a = l .before .before .args in
-    let more = streams-next (a .t5) (a .n) (l .loop .p) (omega arith) in (
-      omega (arith, l .loop .inv .0),
-      omega (arith, l .loop .inv .1, more),
-      omega (arith, room i),
-      omega (arith, f .put-layers .ensures .0, g .put .ensures .0, l .loop .inv .3),
-      left-put (left-put (rw (programs-turn (a .version) (a .streams) (l .loop .left) (l .loop .p) (l .loop .next)
-          (a .t5) (omega arith)) at (l .loop .inv .4)) (g .put .ensures .1)) (f .put-layers .ensures .1),
-    )
+    let more = streams-next (a .t5) (a .n) (l .loop .p) (omega arith) in
+    record {
+      ahead = omega (arith, l .loop .inv .ahead);
+      first = omega (arith, l .loop .inv .first, more);
+      few = omega (arith, room i);
+      bits = omega (arith, f .put-layers .ensures .0, g .put .ensures .0, l .loop .inv .bits);
+      put =
+          left-put (left-put (rw (programs-turn (a .version) (a .streams) (l .loop .left) (l .loop .p) (l .loop .next)
+          (a .t5) (omega arith)) at (l .loop .inv .put)) (g .put .ensures .1)) (f .put-layers .ensures .1);
+    }
 
 returns : tie.Need-returns Inv-loop μ-loop
 unfolding programsBits
 returns c =
     let l = c .before in
     let e : l .loop .left ≡ 0 = omega arith in
-    (omega (arith, l .loop .inv), (rw e at (l .loop .inv .4)) .then put-none)
+    (omega (arith, l .loop .inv .few, l .loop .inv .bits, l .loop .inv .ahead), (rw e at (l .loop .inv .put)) .then put-none)
 
 same-length : tie.Need-same-length Inv-loop μ-loop
 same-length c = put-length (returns c .1)

@@ -1,33 +1,28 @@
 -- `walk::payloads_of` meets its contract.
-use mathlib.Core.Path.{refl, ap, _≡_, _∙_}
-use Prim.Native.Nat.{_+_, _-_, _≤_}
+use mathlib.Core.Path.{ap, _≡_}
+use Prim.Native.Nat.{_+_, _-_, _≤_, _<_}
 use native.Mathlib.Omega.{arith}
-use lib.ListN.{length, drop, take}
+use lib.ListN.{length, getD, drop, take}
 use borrow.Author.Needs.{needs}
-use Rattle.kernel.specs.Reading.{Stands}
-use Rattle.element.specs.Mux.{payloadMux}
-use Rattle.walk.specs.Parts.{toldPassage, made, storedIf, Goes, toldWalked}
-use Rattle.walk.proofs.Goes.{goes-itself, goes-told, goes-back, goes-steady}
-use Rattle.kernel.specs.Element.{walk, closed}
-use Rattle.walk.proofs.Goes.{payloads-done, payloads-turn, payloads-off}
+use Rattle.kernel.specs.Element.{closed, follow}
+use Rattle.element.specs.Mux.{kindP, passOver, payloadMux}
+use Rattle.walk.specs.Parts.{toldWalked}
+use Rattle.walk.proofs.Goes.{goes-told, Going, going-itself, going-on, going-off, going-done}
+use Rattle.walk.proofs.Goes.{payloads-none, payloads-more}
 use Rattle.walk.proofs.payloads_of.Statement.{statement}
 use Rattle.walk.proofs.payloads_of.Tie as tie
 
 abbrev Inv-loop : tie.InvT-loop
 Inv-loop el n k map₀ store widths cur₀ items₀ i₀ map cur items i =
-    (i ≤ n) × (items ≤ k + i) × (length map ≡ length map₀) × Stands el (cur .at) (cur .fields)
-    × Goes el (payloadMux i (drop i (take n widths))) (cur .at) (cur .fields) items store map
-    (toldPassage k (walk el (payloadMux 0 (take n widths)) (cur₀ .at) (cur₀ .fields)))
-    (storedIf store map₀ k (made (walk el (payloadMux 0 (take n widths)) (cur₀ .at) (cur₀ .fields))))
+    (i ≤ n) × (items ≤ k + i)
+    × Going el store (payloadMux 0 (take n widths)) (cur₀ .at) (cur₀ .fields) k map₀
+    (payloadMux i (drop i (take n widths))) (cur .at) (cur .fields) items map
 
 abbrev μ-loop : tie.MeasureT-loop
 μ-loop el n k map₀ store widths cur₀ items₀ i₀ map cur items i = n - i
 
-wide : (l : tie.At-loop Inv-loop μ-loop) → length (l .before .before .before .args .t2) ≡ 16
-wide l = search needs
-
 loop-holds : tie.Need-loop-holds Inv-loop μ-loop
-loop-holds c = (omega arith, omega arith, refl, omega arith, goes-itself)
+loop-holds c = (omega arith, omega arith, going-itself (omega arith))
 
 mul-w : tie.Need-mul-w Inv-loop μ-loop
 mul-w c = omega arith
@@ -41,15 +36,22 @@ cast-pass-item c = omega arith
 pass-item-requires : tie.Need-pass-item-requires Inv-loop μ-loop
 pass-item-requires c κs = omega arith
 
+-- the payload at hand, and those behind it
+more : (l : tie.At-loop Inv-loop μ-loop) → let a = l .before .before .before .args in
+    l .loop .i < a .n
+    → payloadMux (l .loop .i) (drop (l .loop .i) (take (a .n) (a .t2)))
+    ≡ follow (passOver closed kindP (l .loop .i) (getD (a .t2) (l .loop .i) 0))
+    (λ _. payloadMux (l .loop .i + 1) (drop (l .loop .i + 1) (take (a .n) (a .t2))))
+more l h =
+    payloads-more (l .before .before .before .args .t2) (l .before .before .before .args .n) (l .loop .i) h (omega arith)
+
 returns : tie.Need-returns Inv-loop μ-loop
 returns c =
     let q = c .enum-told .given .1 in
     let p = c .before .before .before .before in
-    let l = p .before .before .before in
-    let a = l .before .before .before .args in (
-      goes-back (payloadMux 0 (take (a .n) (a .t2))) (a .c .at) (a .c .fields) (a .k) (a .store) (a .map .now)
-          (rw q (payloads-off (a .t2) (a .n) (l .loop .i) (omega arith) (omega arith)
-          (goes-told (p .pass-item .ensures closed .0) (ap toldWalked q)) (l .loop .inv .4))),
+    let l = p .before .before .before in (
+      rw q (going-off _ _ (more l (omega arith)) (goes-told (p .pass-item .ensures closed .0) (ap toldWalked q))
+          (l .loop .inv .2)),
       rw q tt,
     )
 
@@ -63,24 +65,18 @@ loop-again : tie.Need-loop-again Inv-loop μ-loop
 loop-again c =
     let g = c .before in
     let p = g .before .before .before .before in
-    let l = p .before .before .before in
-    let a = l .before .before .before .args in
-    let t = goes-told (p .pass-item .ensures closed .0) (ap toldWalked (g .got .given .1)) in (
+    let l = p .before .before .before in (
       omega arith,
       (let e = rw (g .got .given .1) at (p .pass-item .ensures closed .1) in omega arith),
-      p .pass-item .kept .1 .1 .1 .1 .1 .1 .0 ∙ l .loop .inv .2,
-      goes-steady t (l .loop .inv .3),
-      payloads-turn (a .t2) (a .n) (l .loop .i) (omega arith) (omega (arith, wide l)) t (l .loop .inv .4),
+      going-on _ _ (more l (omega arith)) (goes-told (p .pass-item .ensures closed .0) (ap toldWalked (g .got .given .1)))
+          (p .pass-item .kept .1 .1 .1 .1 .1 .1 .0) (l .loop .inv .2),
     )
 
 returns-2 : tie.Need-returns-2 Inv-loop μ-loop
 returns-2 c =
     let l = c .before in
-    let a = l .before .before .before .args in (
-      goes-back (payloadMux 0 (take (a .n) (a .t2))) (a .c .at) (a .c .fields) (a .k) (a .store) (a .map .now)
-          (payloads-done (a .t2) (a .n) (l .loop .i) (omega arith) (l .loop .inv .4)),
-      omega arith,
-    )
+    let a = l .before .before .before .args in
+    (going-done (payloads-none (a .t2) (a .n) (l .loop .i) (omega arith)) (l .loop .inv .2), omega arith)
 
 pub payloads-of-spec : {M : Type 1} → statement M
 payloads-of-spec =

@@ -1,32 +1,28 @@
 -- `walk::subframes_of` meets its contract.
-use mathlib.Core.Path.{refl, ap, _≡_, _∙_}
+use mathlib.Core.Path.{ap}
 use Prim.Native.Nat.{_+_, _*_, _≤_}
 use native.Mathlib.Omega.{arith}
-use lib.ListN.{length, take}
+use lib.ListN.{take}
 use borrow.Author.Needs.{needs}
-use Rattle.kernel.specs.Reading.{Stands}
 use Rattle.element.specs.Mux.{subframes}
-use Rattle.walk.specs.Parts.{toldPassage, made, storedIf, Goes, toldWalked}
+use Rattle.walk.specs.Parts.{toldWalked}
 use Rattle.walk.specs.Plan.{slotsBy}
-use Rattle.walk.proofs.Goes.{goes-itself, goes-told, goes-back, subframes-done, subframes-turn, subframes-off}
-use Rattle.walk.proofs.Goes.{goes-steady}
-use Rattle.kernel.specs.Element.{walk}
+use Rattle.walk.proofs.Goes.{goes-told, Going, going-itself, going-on, going-off, going-done}
+use Rattle.walk.proofs.Goes.{subframes-none, subframes-more}
 use Rattle.walk.proofs.subframes_of.Statement.{statement}
 use Rattle.walk.proofs.subframes_of.Tie as tie
 
 abbrev Inv-loop : tie.InvT-loop
 Inv-loop el slots n count k map₀ store cur₀ items₀ left₀ map cur items left =
-    (left ≤ count) × (items + 17 * left ≤ k + 17 * count) × (length map ≡ length map₀)
-    × Stands el (cur .at) (cur .fields)
-    × Goes el (subframes left (slotsBy (take n slots))) (cur .at) (cur .fields) items store map
-    (toldPassage k (walk el (subframes count (slotsBy (take n slots))) (cur₀ .at) (cur₀ .fields)))
-    (storedIf store map₀ k (made (walk el (subframes count (slotsBy (take n slots))) (cur₀ .at) (cur₀ .fields))))
+    (left ≤ count) × (items + 17 * left ≤ k + 17 * count)
+    × Going el store (subframes count (slotsBy (take n slots))) (cur₀ .at) (cur₀ .fields) k map₀
+    (subframes left (slotsBy (take n slots))) (cur .at) (cur .fields) items map
 
 abbrev μ-loop : tie.MeasureT-loop
 μ-loop el slots n count k map₀ store cur₀ items₀ left₀ map cur items left = left
 
 loop-holds : tie.Need-loop-holds Inv-loop μ-loop
-loop-holds c = (omega arith, omega arith, refl, omega arith, goes-itself)
+loop-holds c = (omega arith, omega arith, going-itself (omega arith))
 
 subframe-of-requires : tie.Need-subframe-of-requires Inv-loop μ-loop
 subframe-of-requires c κs = omega arith
@@ -35,12 +31,9 @@ returns : tie.Need-returns Inv-loop μ-loop
 returns c =
     let q = c .enum-told .given .1 in
     let p = c .before .before .before .before in
-    let l = p .before .before .before in
-    let a = l .before .before .before .args in (
-      goes-back (subframes (a .count) (slotsBy (take (a .n) (a .slots)))) (a .c .at) (a .c .fields) (a .k) (a .store)
-          (a .map .now)
-          (rw q (subframes-off (slotsBy (take (a .n) (a .slots))) (l .loop .left) (omega arith)
-          (goes-told (p .subframe-of .ensures .0) (ap toldWalked q)) (l .loop .inv .4))),
+    let l = p .before .before .before in (
+      rw q (going-off _ _ (subframes-more _ (l .loop .left) (omega arith))
+          (goes-told (p .subframe-of .ensures .0) (ap toldWalked q)) (l .loop .inv .2)),
       rw q tt,
     )
 
@@ -54,25 +47,18 @@ loop-again : tie.Need-loop-again Inv-loop μ-loop
 loop-again c =
     let g = c .before in
     let p = g .before .before .before .before in
-    let l = p .before .before .before in
-    let a = l .before .before .before .args in
-    let t = goes-told (p .subframe-of .ensures .0) (ap toldWalked (g .got .given .1)) in (
+    let l = p .before .before .before in (
       omega arith,
       (let e = rw (g .got .given .1) at (p .subframe-of .ensures .1) in omega arith),
-      p .subframe-of .kept .1 .1 .1 .1 .1 .0 ∙ l .loop .inv .2,
-      goes-steady t (l .loop .inv .3),
-      subframes-turn (slotsBy (take (a .n) (a .slots))) (l .loop .left) (omega arith) t (l .loop .inv .4),
+      going-on _ _ (subframes-more _ (l .loop .left) (omega arith))
+          (goes-told (p .subframe-of .ensures .0) (ap toldWalked (g .got .given .1)))
+          (p .subframe-of .kept .1 .1 .1 .1 .1 .0) (l .loop .inv .2),
     )
 
 returns-2 : tie.Need-returns-2 Inv-loop μ-loop
 returns-2 c =
     let l = c .before in
-    let a = l .before .before .before .args in (
-      goes-back (subframes (a .count) (slotsBy (take (a .n) (a .slots)))) (a .c .at) (a .c .fields) (a .k) (a .store)
-          (a .map .now)
-          (subframes-done (slotsBy (take (a .n) (a .slots))) (l .loop .left) (omega arith) (l .loop .inv .4)),
-      omega arith,
-    )
+    (going-done (subframes-none _ (l .loop .left) (omega arith)) (l .loop .inv .2), omega arith)
 
 pub subframes-of-spec : {M : Type 1} → statement M
 subframes-of-spec =

@@ -1,11 +1,13 @@
 -- `writer::put_subframes` meets its contract.
 use mathlib.Core.Path.{_≡_, _∙_, ap}
-use Prim.Native.Nat.{suc, _+_, _-_, _*_, _≤_}
+use mathlib.Core.List.{List}
+use Prim.Native.Nat.{ℕ, suc, _+_, _-_, _*_, _≤_}
 use native.Mathlib.Omega.{arith}
 use lib.ListN.{length, take, drop}
 use lib.Seq.{length-take-le}
 use Rattle.kernel.specs.Bits.{Put}
 use Rattle.kernel.proofs.Laid.{Left, left-all, left-put, put-none, put-length}
+use Rattle.records.specs.declared.Stream.{Stream}
 use Rattle.writer.specs.declared.Measure.{Measure}
 use Rattle.writer.specs.Written.{bitsIn, sumOf, subframePieces}
 use Rattle.writer.proofs.Subframes.{all-sum-turn, all-bits-turn, mul-less, part-is, part-length}
@@ -13,12 +15,19 @@ use borrow.Author.Needs.{needs}
 use Rattle.writer.proofs.put_subframes.Statement.{statement}
 use Rattle.writer.proofs.put_subframes.Tie as tie
 
+-- n subframes put up to bit `to`, with `left` of them ahead
+record Putting (out₀ : List ℕ) (at : ℕ) (ss : List Stream) (count n : ℕ) (ns payload out : List ℕ)
+    (to from start left : ℕ) : Type 0 where
+  ahead : left ≤ n
+  behind : from + left * count ≡ n * count
+  rest : start + sumOf (left * count) (drop from ns) ≡ length payload
+  few : to ≤ at + 4224 * (n - left) + 8 * start
+  put : Left out₀ at (bitsIn (subframePieces n ss ns payload)) out to
+      (bitsIn (subframePieces left ss (drop from ns) (drop start payload)))
+
 abbrev Inv-loop : tie.InvT-loop
 Inv-loop out₀ at streams count n ns payload to₀ from₀ start₀ left₀ out to from start left =
-    (left ≤ n) × (from + left * count ≡ n * count) × (start + sumOf (left * count) (drop from ns) ≡ length payload)
-    × (to ≤ at + 4224 * (n - left) + 8 * start)
-    × Left out₀ at (bitsIn (subframePieces n (take count streams) ns payload)) out to
-    (bitsIn (subframePieces left (take count streams) (drop from ns) (drop start payload)))
+    Putting out₀ at (take count streams) count n ns payload out to from start left
 
 abbrev μ-loop : tie.MeasureT-loop
 μ-loop out₀ at streams count n ns payload to₀ from₀ start₀ left₀ out to from start left = left
@@ -26,7 +35,13 @@ abbrev μ-loop : tie.MeasureT-loop
 loop-holds : tie.Need-loop-holds Inv-loop μ-loop
 loop-holds c =
     let s = c .before .before .before in
-    (omega arith, omega arith, omega (arith, s .pre .4), omega arith, left-all)
+    record {
+      ahead = omega arith;
+      behind = omega arith;
+      rest = omega (arith, s .pre .4);
+      few = omega arith;
+      put = left-all;
+    }
 
 -- the lengths of this subframe stand in ns
 room : (i : tie.In-loop Inv-loop μ-loop) → let a = i .before .before .before .before .before .args in
@@ -37,7 +52,7 @@ room i =
     let a = s .args in
     let e : l .left * a .count ≡ a .count + (l .left - 1) * a .count = mul-less (l .left) (a .count) (omega arith) in
     let p : length (a .ns .now) ≡ a .n * a .count = s .pre .3 in
-    let q : l .from + l .left * a .count ≡ a .n * a .count = l .inv .1 in
+    let q : l .from + l .left * a .count ≡ a .n * a .count = l .inv .behind in
     omega (arith, e, p, q)
 
 few : (i : tie.In-loop Inv-loop μ-loop) → let a = i .before .before .before .before .before .args in
@@ -57,7 +72,7 @@ sums i =
     let a = i .before .before .before .before .before .args in
     let q : l .left ≡ suc (l .left - 1) = omega arith in
     let z = all-sum-turn (a .streams) (a .count) (a .ns .now) (few i) (l .left - 1) (l .from) in
-    rw (q, z) at (l .inv .2)
+    rw (q, z) at (l .inv .rest)
 
 pay : (r : tie.After-measure-row Inv-loop μ-loop) → let a = r .before .before .before .before .before .before .args in
     r .measure-row .result .payload ≡ sumOf (a .count) (drop (r .before .before .loop .from) (a .ns .now))
@@ -89,7 +104,7 @@ put-lengths-requires c κs =
     let r = c .before .before in
     let i = r .before in
     let s = i .before .before .before .before .before in (
-      omega (arith, i .before .loop .inv .0, i .before .loop .inv .3, sums i, s .pre .0, s .pre .2, s .pre .5),
+      omega (arith, i .before .loop .inv .ahead, i .before .loop .inv .few, sums i, s .pre .0, s .pre .2, s .pre .5),
       s .pre .1,
       room i,
       omega (arith, sums i, s .pre .5),
@@ -114,8 +129,8 @@ put-bytes-requires c κs =
       pay r,
       sums i,
       b,
-      i .before .loop .inv .0,
-      i .before .loop .inv .3,
+      i .before .loop .inv .ahead,
+      i .before .loop .inv .few,
       s .pre .0,
       s .pre .2,
       s .pre .5,
@@ -133,14 +148,16 @@ loop-again c =
     let m : l .left * a .count ≡ a .count + (l .left - 1) * a .count = mul-less (l .left) (a .count) (omega arith) in
     let t =
     all-bits-turn (a .streams) (a .count) (a .ns .now) (few i) (l .left - 1) (l .from) (a .payload .now)
-    (l .start) in (
-      omega arith,
-      omega (arith, m, l .inv .1),
-      omega (arith, sums i, pay r),
-      omega (arith, e .0, b .0, cut r, l .inv .0, l .inv .3),
-      rw (pay r) (left-put (left-put (rw (q, t) at (l .inv .4)) (b .1))
-          (rw (part-is (a .payload .now) (l .start) (r .measure-row .result .payload), pay r) at (e .1))),
-    )
+    (l .start) in
+    record {
+      ahead = omega (arith, l .inv .ahead);
+      behind = omega (arith, m, l .inv .behind);
+      rest = omega (arith, sums i, pay r);
+      few = omega (arith, e .0, b .0, cut r, l .inv .ahead, l .inv .few);
+      put =
+          rw (pay r) (left-put (left-put (rw (q, t) at (l .inv .put)) (b .1))
+          (rw (part-is (a .payload .now) (l .start) (r .measure-row .result .payload), pay r) at (e .1)));
+    }
 
 done : (c : tie.After-loop Inv-loop μ-loop) → let a = c .before .before .before .before .before .args in
     Put (a .out .now) (a .at) (bitsIn
@@ -149,7 +166,7 @@ done : (c : tie.After-loop Inv-loop μ-loop) → let a = c .before .before .befo
 unfolding bitsIn subframePieces
 done c =
     let e : c .before .loop .left ≡ 0 = omega arith in
-    (rw e at (c .before .loop .inv .4)) .then put-none
+    (rw e at (c .before .loop .inv .put)) .then put-none
 
 same-length : tie.Need-same-length Inv-loop μ-loop
 same-length c = put-length (done c)
@@ -158,8 +175,8 @@ returns : tie.Need-returns Inv-loop μ-loop
 returns c = (
   omega (
     arith,
-    c .before .loop .inv .2,
-    c .before .loop .inv .3,
+    c .before .loop .inv .rest,
+    c .before .loop .inv .few,
     c .before .before .before .before .before .pre .2,
     c .before .before .before .before .before .pre .5,
   ),
