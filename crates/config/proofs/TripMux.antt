@@ -30,8 +30,8 @@ use Rattle.numbers.specs.Values.{latmGetValue, valueBits, groupsFrom, groupBits
 use Rattle.asc.specs.Asc.{audioSpecificConfig, ascBits}
 use Rattle.config.specs.Mux.{windowed, configuration, configBits, frameLength, frameLengthBits, sentOrSame, layer}
 use Rattle.config.specs.Mux.{layerBits, configAt, layers, layersBits, programs, programsBits, muxVersionA}
-use Rattle.config.specs.Mux.{muxHead, muxHeadBits, otherLength, muxEnding, muxEndingBits, noPlaces, streamMuxConfig}
-use Rattle.config.specs.Mux.{muxBits}
+use Rattle.config.specs.Mux.{muxHead, muxHeadBits, otherLength, muxEnding, muxEndingBits, noPlaces}
+use Rattle.config.specs.Mux.{streamMuxConfig, muxBits}
 use Rattle.records.proofs.Apart.{SlotOk, of-type-0, of-type-1, slot-ok, RecordOk, record-ok}
 use Rattle.records.proofs.Tables.{streams-next, streams-upto, streams-end}
 use Rattle.records.proofs.Theorems.{same-means-equal}

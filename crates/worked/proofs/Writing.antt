@@ -5,8 +5,8 @@ use Rattle.kernel.specs.Lists.{tab, allOf}
 use Rattle.records.specs.Table.{streamsIn}
 use Rattle.numbers.specs.Values.{valueBits}
 use Rattle.asc.specs.Asc.{freqBits, tailBits, frontBits, underBits, ascBits}
-use Rattle.config.specs.Mux.{configBits, frameLengthBits, layerBits, layersBits, programsBits, muxHeadBits, muxEndingBits}
-use Rattle.config.specs.Mux.{muxBits}
+use Rattle.config.specs.Mux.{configBits, frameLengthBits, layerBits, layersBits, programsBits}
+use Rattle.config.specs.Mux.{muxHeadBits, muxEndingBits, muxBits}
 use Rattle.writer.specs.Written.{bitsIn, onesBits, lengthBits, lengthsBits, payloadPieces, sumOf, subframePieces}
 use Rattle.writer.specs.Write.{rowFits, slotsFit}
 use Rattle.worked.specs.Writing.{WorkedWriting}

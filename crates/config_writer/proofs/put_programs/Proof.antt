@@ -37,7 +37,8 @@ room : (c : tie.In-loop Inv-loop μ-loop) → let l = c .before in
 room c =
     let l = c .before in
     let a = l .before .before .args in
-    omega (arith, l .loop .inv .first, few-streams (a .t5) (a .n) (l .loop .p) (omega arith) (omega arith) (omega arith))
+    let most = few-streams (a .t5) (a .n) (l .loop .p) (omega arith) (omega arith) (omega arith) in
+    omega (arith, l .loop .inv .first, most)
 
 loop-holds : tie.Need-loop-holds Inv-loop μ-loop
 unfolding streamsIn
@@ -82,7 +83,7 @@ unfolding programsBits
 returns c =
     let l = c .before in
     let e : l .loop .left ≡ 0 = omega arith in
-    (omega (arith, l .loop .inv .few, l .loop .inv .bits, l .loop .inv .ahead), (rw e at (l .loop .inv .put)) .then put-none)
+    (omega (arith, l .loop .inv .few, l .loop .inv .bits), (rw e at (l .loop .inv .put)) .then put-none)
 
 same-length : tie.Need-same-length Inv-loop μ-loop
 same-length c = put-length (returns c .1)

@@ -1,11 +1,11 @@
 -- `walk::payloads_of` meets its contract.
 use mathlib.Core.Path.{ap, _≡_}
-use Prim.Native.Nat.{_+_, _-_, _≤_, _<_}
+use Prim.Native.Nat.{_+_, _-_, _≤_}
 use native.Mathlib.Omega.{arith}
-use lib.ListN.{length, getD, drop, take}
+use lib.ListN.{length, drop, take}
 use borrow.Author.Needs.{needs}
-use Rattle.kernel.specs.Element.{closed, follow}
-use Rattle.element.specs.Mux.{kindP, passOver, payloadMux}
+use Rattle.kernel.specs.Element.{closed}
+use Rattle.element.specs.Mux.{payloadMux}
 use Rattle.walk.specs.Parts.{toldWalked}
 use Rattle.walk.proofs.Goes.{goes-told, Going, going-itself, going-on, going-off, going-done}
 use Rattle.walk.proofs.Goes.{payloads-none, payloads-more}
@@ -20,6 +20,9 @@ Inv-loop el n k map₀ store widths cur₀ items₀ i₀ map cur items i =
 
 abbrev μ-loop : tie.MeasureT-loop
 μ-loop el n k map₀ store widths cur₀ items₀ i₀ map cur items i = n - i
+
+wide : (l : tie.At-loop Inv-loop μ-loop) → length (l .before .before .before .args .t2) ≡ 16
+wide l = search needs
 
 loop-holds : tie.Need-loop-holds Inv-loop μ-loop
 loop-holds c = (omega arith, omega arith, going-itself (omega arith))
@@ -36,22 +39,14 @@ cast-pass-item c = omega arith
 pass-item-requires : tie.Need-pass-item-requires Inv-loop μ-loop
 pass-item-requires c κs = omega arith
 
--- the payload at hand, and those behind it
-more : (l : tie.At-loop Inv-loop μ-loop) → let a = l .before .before .before .args in
-    l .loop .i < a .n
-    → payloadMux (l .loop .i) (drop (l .loop .i) (take (a .n) (a .t2)))
-    ≡ follow (passOver closed kindP (l .loop .i) (getD (a .t2) (l .loop .i) 0))
-    (λ _. payloadMux (l .loop .i + 1) (drop (l .loop .i + 1) (take (a .n) (a .t2))))
-more l h =
-    payloads-more (l .before .before .before .args .t2) (l .before .before .before .args .n) (l .loop .i) h (omega arith)
-
 returns : tie.Need-returns Inv-loop μ-loop
 returns c =
     let q = c .enum-told .given .1 in
     let p = c .before .before .before .before in
-    let l = p .before .before .before in (
-      rw q (going-off _ _ (more l (omega arith)) (goes-told (p .pass-item .ensures closed .0) (ap toldWalked q))
-          (l .loop .inv .2)),
+    let l = p .before .before .before in
+    let a = l .before .before .before .args in (
+      rw q (going-off _ _ (payloads-more (a .t2) (a .n) (l .loop .i) (omega arith) (omega arith))
+          (goes-told (p .pass-item .ensures closed .0) (ap toldWalked q)) (l .loop .inv .2)),
       rw q tt,
     )
 
@@ -65,10 +60,12 @@ loop-again : tie.Need-loop-again Inv-loop μ-loop
 loop-again c =
     let g = c .before in
     let p = g .before .before .before .before in
-    let l = p .before .before .before in (
+    let l = p .before .before .before in
+    let a = l .before .before .before .args in (
       omega arith,
       (let e = rw (g .got .given .1) at (p .pass-item .ensures closed .1) in omega arith),
-      going-on _ _ (more l (omega arith)) (goes-told (p .pass-item .ensures closed .0) (ap toldWalked (g .got .given .1)))
+      going-on _ _ (payloads-more (a .t2) (a .n) (l .loop .i) (omega arith) (omega (arith, wide l)))
+          (goes-told (p .pass-item .ensures closed .0) (ap toldWalked (g .got .given .1)))
           (p .pass-item .kept .1 .1 .1 .1 .1 .1 .0) (l .loop .inv .2),
     )
 
