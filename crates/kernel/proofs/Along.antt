@@ -33,43 +33,24 @@ module _ {A : Type 0} {s : List ℕ} {m : Reading A} {at n : ℕ} where
       stands = λ h. steady e (l .stands h);
     }
 
+    -- a step that reads nothing
+    abbrev onto : (r : Reading A)
+        → ((o : Told A) → Comes s r (l .to) (l .count) o → Comes s (l .rest) (l .to) (l .count) o) → Along s m at n
+    onto r e = record { rest = r; to = l .to; count = l .count; whole = λ h. l .whole (e _ h); stands = l .stands }
+
     -- the bit reached was asked for
     abbrev pub noted : (f : ℕ → Reading A) → l .rest ≡ (here >>= f) → Along s m at n
-    noted f q = record {
-      rest = f (l .to);
-      to = l .to;
-      count = l .count;
-      whole = λ h. l .whole (rw q (placed f h));
-      stands = l .stands;
-    }
+    noted f q = onto (f (l .to)) (λ o h. rw q (placed f h))
 
     -- a test chose a way, or held
     abbrev pub when : {b : Bool} (x y : Reading A) → l .rest ≡ choose b x y → b ≡ true → Along s m at n
-    when x y q e = record {
-      rest = x;
-      to = l .to;
-      count = l .count;
-      whole = λ h. l .whole (rw q (yes-way y e h));
-      stands = l .stands;
-    }
+    when x y q e = onto x (λ o h. rw q (yes-way y e h))
 
     abbrev pub unless : {b : Bool} (x y : Reading A) → l .rest ≡ choose b x y → b ≡ false → Along s m at n
-    unless x y q e = record {
-      rest = y;
-      to = l .to;
-      count = l .count;
-      whole = λ h. l .whole (rw q (no-way x e h));
-      stands = l .stands;
-    }
+    unless x y q e = onto y (λ o h. rw q (no-way x e h))
 
     abbrev pub needed : {b : Bool} (r w : ℕ) (k : Reading A) → l .rest ≡ (need b r w >> k) → b ≡ true → Along s m at n
-    needed r w k q e = record {
-      rest = k;
-      to = l .to;
-      count = l .count;
-      whole = λ h. l .whole (rw q (holds r w e h));
-      stands = l .stands;
-    }
+    needed r w k q e = onto k (λ o h. rw q (holds r w e h))
 
     -- the rest comes to what is told: so does the whole
     pub ends : {r : Reading A} {o : Told A} → l .rest ≡ r → Comes s r (l .to) (l .count) o → o ≡ told (run s m at n)

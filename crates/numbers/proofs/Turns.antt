@@ -25,8 +25,7 @@ two-leb n = go (leb 1 n) refl
 module _ {s : List ℕ} {at k : ℕ} where
   pub bytes-done : (n v : ℕ) → n ≡ 0 → Comes s (bytesFrom n v) at k (value v at k)
   unfolding bytesFrom
-  bytes-done zero v h = gives
-  bytes-done (suc n) v h = absurd (omega arith)
+  bytes-done n v h = rw h gives
 
   pub bytes-turn : (n v : ℕ) {b at′ k′ : ℕ} {o : Told ℕ} → 0 < n → Comes s (field Open 8) at k (value b at′ k′)
       → Comes s (bytesFrom n v) at k o → Comes s (bytesFrom (n - 1) (256 * v + b)) at′ k′ o
@@ -43,8 +42,7 @@ module _ {s : List ℕ} {at k : ℕ} where
 
   pub groups-done : (n v : ℕ) → n ≡ 0 → Comes s (groupsFrom n v) at k (value v at k)
   unfolding groupsFrom
-  groups-done zero v h = gives
-  groups-done (suc n) v h = absurd (omega arith)
+  groups-done n v h = rw h gives
 
   pub groups-stop : (n v : ℕ) {x : Refusal} → 0 < n → Comes s (field Open 1) at k (refusal x)
       → Comes s (groupsFrom n v) at k (refusal x)

@@ -20,8 +20,7 @@ use Rattle.walk.specs.Plan.{slotBy, slotsBy}
 module _ {s : List ℕ} {at k : ℕ} where
   pub slot-done : (n v : ℕ) → n ≡ 0 → Comes s (slotFrom n v) at k (value v at k)
   unfolding slotFrom
-  slot-done zero v h = gives
-  slot-done (suc n) v h = absurd (omega arith)
+  slot-done n v h = rw h gives
 
   pub slot-stop : (n v : ℕ) {x : Refusal} → 0 < n → Comes s (field Open 8) at k (refusal x)
       → Comes s (slotFrom n v) at k (refusal x)

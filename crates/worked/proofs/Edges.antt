@@ -17,10 +17,7 @@ use Rattle.element.specs.Mux.{muxSlotLengthBytes}
 use Rattle.element.specs.Reply.{answer, numbers}
 use Rattle.worked.specs.Worked.{AllComeOut}
 use Rattle.worked.specs.Edges.{edges, Edges}
-
-infixr 10 _&_
-_&_ : {A B : Type 0} → A → B → A × B
-a & b = (a, b)
+use Rattle.worked.proofs.Worked.{_&_}
 
 pub edges-come-out : Edges
 unfolding AllComeOut edges answer numbers audioMuxElement afterFlag useSameStreamMux applied rest byteAlignment

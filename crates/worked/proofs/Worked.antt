@@ -18,7 +18,7 @@ use Rattle.element.specs.Reply.{answer, numbers}
 use Rattle.worked.specs.Worked.{AllComeOut, table, Worked}
 
 infixr 10 _&_
-_&_ : {A B : Type 0} → A → B → A × B
+pub _&_ : {A B : Type 0} → A → B → A × B
 a & b = (a, b)
 
 pub worked : Worked

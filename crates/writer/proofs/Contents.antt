@@ -6,9 +6,9 @@ use Prim.Native.Nat.{ℕ, zero, suc, _+_, _-_, _*_, _≤_}
 use native.Mathlib.Omega.{arith}
 use lib.Dec.{eqb}
 use lib.ListN.{length, getD, take, drop, length-append, length-drop}
-use lib.Seq.{take-append-seam, drop-append-seam, take-add, length-take-le, drop-drop}
+use lib.Seq.{take-append-seam, drop-append-seam, take-add, drop-drop}
 use Rattle.kernel.specs.Bits.{unpack}
-use Rattle.kernel.proofs.Held.{length-unpack, unpack-append}
+use Rattle.kernel.proofs.Held.{unpack-append, length-first}
 use Rattle.records.specs.declared.Stream.{Stream}
 use Rattle.element.specs.Mux.{kindL, kindP}
 use Rattle.writer.specs.Written.{Piece, bitsIn, itemsAt, payloadPieces, sumOf, subframePieces}
@@ -71,10 +71,10 @@ unfolding keptWidths payloadPieces sumOf widths
 payload-widths zero i ns payload l = refl
 payload-widths (suc k) i ns payload l =
     let n = getD ns 0 0 in
-    let e : length (unpack (take n payload)) ≡ 8 * n = length-unpack (take n payload)
-    ∙ rw (length-take-le n payload (omega arith)) in
-    let d : length (drop n payload) ≡ length payload - n = length-drop n payload in
-    rw (e, payload-widths k (i + 1) (drop 1 ns) (drop n payload) (omega (arith, d)))
+    rw (
+      length-first payload n (omega arith),
+      payload-widths k (i + 1) (drop 1 ns) (drop n payload) (omega (arith, length-drop n payload)),
+    )
 
 -- no payload is of another kind
 payload-none : (kind : ℕ) → eqb kindP kind ≡ false → (k i : ℕ) (ns payload : List ℕ)

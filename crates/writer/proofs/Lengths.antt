@@ -1,5 +1,5 @@
 -- How many bits are written.
-use mathlib.Core.Path.{_≡_, refl, _∙_}
+use mathlib.Core.Path.{_≡_, refl}
 use mathlib.Core.Bool.{Bool, true, false, cond}
 use mathlib.Core.List.{List, [], _∷_}
 use Prim.Native.Nat.{ℕ, zero, suc, _+_, _-_, _*_, _/_, _≤_}
@@ -10,7 +10,7 @@ use lib.Seq.{length-take-le}
 use Rattle.kernel.specs.Bits.{unpack}
 use Rattle.kernel.specs.Element.{passed, closed}
 use Rattle.kernel.proofs.Bits.{length-bitsOf}
-use Rattle.kernel.proofs.Held.{length-unpack}
+use Rattle.kernel.proofs.Held.{length-unpack, length-first}
 use Rattle.records.specs.declared.Stream.{Stream}
 use Rattle.element.specs.Mux.{kindO}
 use Rattle.writer.specs.Written.{piece, bitsIn, onesBits, lengthBits, lengthsBits, payloadPieces, sumOf}
@@ -44,10 +44,11 @@ unfolding bitsIn payloadPieces sumOf
 payload-length zero i ns payload l = refl
 payload-length (suc k) i ns payload l =
     let n = getD ns 0 0 in
-    let e : length (unpack (take n payload)) ≡ 8 * n = length-unpack (take n payload)
-    ∙ rw (length-take-le n payload (omega arith)) in
-    let d : length (drop n payload) ≡ length payload - n = length-drop n payload in
-    simp length-append (omega (arith, e, payload-length k (i + 1) (drop 1 ns) (drop n payload) (omega (arith, d))))
+    simp length-append (omega (
+      arith,
+      length-first payload n (omega arith),
+      payload-length k (i + 1) (drop 1 ns) (drop n payload) (omega (arith, length-drop n payload)),
+    ))
 
 pub slots-length : (n : ℕ) (ss : List Stream) (ns payload : List ℕ) → sumOf (n * length ss) ns ≤ length payload
     → length (bitsIn (subframePieces n ss ns payload)) ≡ 8 * lengthBytes n ss ns + 8 * sumOf (n * length ss) ns

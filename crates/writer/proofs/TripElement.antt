@@ -14,7 +14,7 @@ use Rattle.kernel.specs.Reading.{give}
 use Rattle.kernel.specs.Element.{done, closed, fields, passed}
 use Rattle.kernel.specs.Trip.{Reads}
 use Rattle.kernel.proofs.Bits.{length-bitsOf}
-use Rattle.kernel.proofs.Held.{length-unpack}
+use Rattle.kernel.proofs.Held.{length-unpack, length-first}
 use Rattle.kernel.proofs.Tests.{both, either}
 use Rattle.kernel.proofs.Trip.{reads-give, reads-bind, reads-on, reads-last, reads-then, reads-yes, reads-no}
 use Rattle.kernel.proofs.Trip.{reads-need, reads-maybe}
@@ -76,10 +76,8 @@ unfolding payloadMux widths payloadPieces sumOf
 payload-trip zero i ns payload l = spelt-done
 payload-trip (suc k) i ns payload l =
     let n = getD ns 0 0 in
-    let e : length (unpack (take n payload)) ≡ 8 * n = length-unpack (take n payload)
-    ∙ rw (length-take-le n payload (omega arith)) in
-    let d : length (drop n payload) ≡ length payload - n = length-drop n payload in
-    spelt-over (unpack (take n payload)) e (payload-trip k (i + 1) (drop 1 ns) (drop n payload) (omega (arith, d)))
+    spelt-over (unpack (take n payload)) (length-first payload n (omega arith))
+    (payload-trip k (i + 1) (drop 1 ns) (drop n payload) (omega (arith, length-drop n payload)))
 
 -- a sum in two parts
 pub sum-split : (a b : ℕ) (ns : List ℕ) → sumOf (a + b) ns ≡ sumOf a ns + sumOf b (drop a ns)

@@ -232,16 +232,28 @@ module _ (w : Sent) (f : Fits w) where
   othersIn : List Piece
   othersIn = otherPieces (w .config) (w .other)
 
+  -- all bits of a kind that flag and configuration have none of
+  parts-kept : (kind : ℕ) → eqb kindU kind ≡ false → eqb kindC kind ≡ false
+      → keptBits kind (pieces w)
+      ≡ (keptBits kind (slotsIn w f) ++ keptBits kind othersIn)
+      ++ keptBits kind (alignment (length (bitsIn (contentPieces w))) ∷ [])
+  unfolding keptBits othersIn
+  parts-kept kind u e =
+      rw (
+        kept-append kind (configPieces (w .send) (w .config)
+            ++ (slotsIn w f ++ othersIn)) (alignment (length (bitsIn (contentPieces w))) ∷ []),
+        kept-append kind (configPieces (w .send) (w .config)) (slotsIn w f ++ othersIn),
+        kept-append kind (slotsIn w f) othersIn,
+        config-kept kind e (w .send),
+        u,
+      )
+
   payloads-kept : keptBits kindP (pieces w) ≡ unpack (w .payload)
   unfolding keptBits othersIn
   payloads-kept =
       let k = slots-kept (streamsOf (w .config)) (w .config .subframes + 1) (w .lengths) (w .payload) in
       rw (
-        kept-append kindP (configPieces (w .send) (w .config)
-            ++ (slotsIn w f ++ othersIn)) (alignment (length (bitsIn (contentPieces w))) ∷ []),
-        kept-append kindP (configPieces (w .send) (w .config)) (slotsIn w f ++ othersIn),
-        kept-append kindP (slotsIn w f) othersIn,
-        config-kept kindP refl (w .send),
+        parts-kept kindP refl refl,
         other-kept kindP refl (eqb (w .config .other) 1) (take (w .config .bits) (unpack (w .other))),
         k,
         whole-is w f,
@@ -256,11 +268,7 @@ module _ (w : Sent) (f : Fits w) where
   others-kept =
       let k = slots-none (streamsOf (w .config)) kindO refl refl (w .config .subframes + 1) (w .lengths) (w .payload) in
       rw (
-        kept-append kindO (configPieces (w .send) (w .config)
-            ++ (slotsIn w f ++ othersIn)) (alignment (length (bitsIn (contentPieces w))) ∷ []),
-        kept-append kindO (configPieces (w .send) (w .config)) (slotsIn w f ++ othersIn),
-        kept-append kindO (slotsIn w f) othersIn,
-        config-kept kindO refl (w .send),
+        parts-kept kindO refl refl,
         other-kept-other (eqb (w .config .other) 1) (take (w .config .bits) (unpack (w .other))),
         k,
         append-nil,
@@ -271,11 +279,7 @@ module _ (w : Sent) (f : Fits w) where
   zeros-kept =
       let k = slots-none (streamsOf (w .config)) kindA refl refl (w .config .subframes + 1) (w .lengths) (w .payload) in
       rw (
-        kept-append kindA (configPieces (w .send) (w .config)
-            ++ (slotsIn w f ++ othersIn)) (alignment (length (bitsIn (contentPieces w))) ∷ []),
-        kept-append kindA (configPieces (w .send) (w .config)) (slotsIn w f ++ othersIn),
-        kept-append kindA (slotsIn w f) othersIn,
-        config-kept kindA refl (w .send),
+        parts-kept kindA refl refl,
         other-kept kindA refl (eqb (w .config .other) 1) (take (w .config .bits) (unpack (w .other))),
         k,
         append-nil,

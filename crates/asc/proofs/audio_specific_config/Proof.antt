@@ -1,10 +1,10 @@
 -- `asc::audio_specific_config` meets its contract.
-use mathlib.Core.Path.{refl, ap, sym, _∙_}
+use mathlib.Core.Path.{refl, sym, _∙_}
 use native.Mathlib.Omega.{arith}
 use denote.Ref.{now}
 use borrow.Author.Needs.{needs}
-use Rattle.kernel.specs.Answer.{refusal, toldFetched, whyFetched}
-use Rattle.kernel.proofs.Chain.{met, got}
+use Rattle.kernel.specs.Answer.{toldFetched}
+use Rattle.kernel.proofs.Chain.{met, got, handed}
 use Rattle.kernel.proofs.Along.{Along, start, then, when, unless, stops, ends}
 use Rattle.asc.specs.Asc.{audioSpecificConfig}
 use Rattle.asc.specs.Answer.{toldRated}
@@ -34,9 +34,8 @@ channelled c =
 returns : tie.Need-returns
 unfolding audioSpecificConfig
 returns c =
-    let q = c .before .enum-told .given .1 in
-    ap refusal (c .why .ensures ∙ ap whyFetched q)
-    ∙ stops start _ refl (got toldFetched _ _ _ _ (c .before .before .before .object-type .ensures) q)
+    let x = c .before in
+    stops start _ refl (handed (x .before .before .object-type .ensures) (x .enum-told .given .1) (c .why .ensures))
 
 frequency-of-requires : tie.Need-frequency-of-requires
 unfolding typed
@@ -57,10 +56,8 @@ returns-3 : tie.Need-returns-3
 unfolding audioSpecificConfig
 returns-3 c =
     let x = c .before in
-    let q = x .enum-told2 .given .1 in
-    ap refusal (c .why2 .ensures ∙ ap whyFetched q)
-    ∙ stops (rated (x .before .before .before .before)) _ refl
-    (got toldFetched _ _ _ _ (x .before .before .channel-configuration .ensures) q)
+    stops (rated (x .before .before .before .before)) _ refl
+    (handed (x .before .before .channel-configuration .ensures) (x .enum-told2 .given .1) (c .why2 .ensures))
 
 alone-of-requires : tie.Need-alone-of-requires
 unfolding channelled

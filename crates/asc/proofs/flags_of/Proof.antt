@@ -1,10 +1,10 @@
 -- `asc::flags_of` meets its contract.
-use mathlib.Core.Path.{refl, ap, _∙_}
+use mathlib.Core.Path.{refl}
 use native.Mathlib.Omega.{arith}
 use denote.Ref.{now}
 use borrow.Author.Needs.{needs}
-use Rattle.kernel.specs.Answer.{refusal, toldFetched, whyFetched}
-use Rattle.kernel.proofs.Chain.{got, gives}
+use Rattle.kernel.specs.Answer.{toldFetched}
+use Rattle.kernel.proofs.Chain.{got, handed, gives}
 use Rattle.kernel.proofs.Along.{Along, start, then, stops, ends}
 use Rattle.asc.specs.Asc.{gaSpecificConfig}
 use Rattle.asc.proofs.flags_of.Statement.{statement}
@@ -33,9 +33,8 @@ at-d c =
 returns : tie.Need-returns
 unfolding gaSpecificConfig
 returns c =
-    let q = c .before .enum-told .given .1 in
-    ap refusal (c .why .ensures ∙ ap whyFetched q)
-    ∙ stops start _ refl (got toldFetched _ _ _ _ (c .before .before .before .take-at .ensures) q)
+    let x = c .before in
+    stops start _ refl (handed (x .before .before .take-at .ensures) (x .enum-told .given .1) (c .why .ensures))
 
 unset-of-requires : tie.Need-unset-of-requires
 unfolding at-a
@@ -45,10 +44,8 @@ returns-2 : tie.Need-returns-2
 unfolding gaSpecificConfig
 returns-2 c =
     let d = c .before in
-    let q = d .enum-told2 .given .1 in
-    ap refusal (c .why2 .ensures ∙ ap whyFetched q)
-    ∙ stops (at-a (d .before .before .before .before)) _ refl
-    (got toldFetched _ _ _ _ (d .before .before .unset-of .ensures) q)
+    stops (at-a (d .before .before .before .before)) _ refl
+    (handed (d .before .before .unset-of .ensures) (d .enum-told2 .given .1) (c .why2 .ensures))
 
 unset-of-requires-2 : tie.Need-unset-of-requires-2
 unfolding at-b
@@ -58,10 +55,8 @@ returns-3 : tie.Need-returns-3
 unfolding gaSpecificConfig
 returns-3 c =
     let d = c .before in
-    let q = d .enum-told3 .given .1 in
-    ap refusal (c .why3 .ensures ∙ ap whyFetched q)
-    ∙ stops (at-b (d .before .before .before .before)) _ refl
-    (got toldFetched _ _ _ _ (d .before .before .unset-of2 .ensures) q)
+    stops (at-b (d .before .before .before .before)) _ refl
+    (handed (d .before .before .unset-of2 .ensures) (d .enum-told3 .given .1) (c .why3 .ensures))
 
 returns-4 : tie.Need-returns-4
 unfolding gaSpecificConfig

@@ -1,10 +1,10 @@
 -- `asc::under_front` meets its contract.
-use mathlib.Core.Path.{refl, ap, _∙_}
+use mathlib.Core.Path.{refl}
 use native.Mathlib.Omega.{arith}
 use denote.Ref.{now}
 use borrow.Author.Needs.{needs}
-use Rattle.kernel.specs.Answer.{refusal, toldFetched, whyFetched}
-use Rattle.kernel.proofs.Chain.{got, gives}
+use Rattle.kernel.specs.Answer.{toldFetched}
+use Rattle.kernel.proofs.Chain.{got, handed, gives}
 use Rattle.kernel.proofs.Along.{Along, start, then, stops, ends}
 use Rattle.asc.specs.Asc.{underFront}
 use Rattle.asc.specs.Answer.{toldRated, toldFlagged}
@@ -46,10 +46,8 @@ returns-2 : tie.Need-returns-2
 unfolding underFront
 returns-2 c =
     let x = c .before in
-    let q = x .enum-told .given .1 in
-    ap refusal (c .why .ensures ∙ ap whyFetched q)
-    ∙ stops (rated (x .before .before .before .before)) _ refl
-    (got toldFetched _ _ _ _ (x .before .before .object-type .ensures) q)
+    stops (rated (x .before .before .before .before)) _ refl
+    (handed (x .before .before .object-type .ensures) (x .enum-told .given .1) (c .why .ensures))
 
 flags-of-requires : tie.Need-flags-of-requires
 unfolding typed

@@ -1,7 +1,7 @@
 -- `config_writer::put_config` meets its contract.
 use native.Mathlib.Omega.{arith}
 use borrow.Author.Tests.{eq-eqb, ne-eqb}
-use Rattle.kernel.proofs.Laid.{put-then}
+use Rattle.kernel.proofs.Laid.{put-most}
 use Rattle.config.specs.Mux.{configBits}
 use borrow.Author.Needs.{needs}
 use Rattle.config_writer.proofs.put_config.Statement.{statement}
@@ -13,12 +13,9 @@ returns c =
     let b = c .before .before in
     let a = b .before .before .before .before in
     let n = a .before .before in
-    let i = n .before in (
-      omega (arith, b .put-asc .ensures .0, a .put-value .ensures .0),
-      rw
-          (eq-eqb (i .before .before .args .version) 1 (i .if1 .taken))
-          (rw (n .asc-length .ensures .0) at (put-then (a .put-value .ensures .1) (b .put-asc .ensures .1))),
-    )
+    let i = n .before in
+    rw (eq-eqb (i .before .before .args .version) 1 (i .if1 .taken))
+    (rw (n .asc-length .ensures .0) at (put-most _ _ (a .put-value .ensures) (b .put-asc .ensures)))
 
 returns-2 : tie.Need-returns-2
 unfolding configBits

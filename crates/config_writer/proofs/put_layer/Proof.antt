@@ -1,6 +1,5 @@
 -- `config_writer::put_layer` meets its contract.
-use native.Mathlib.Omega.{arith}
-use Rattle.kernel.proofs.Laid.{put-then}
+use Rattle.kernel.proofs.Laid.{put-most}
 use Rattle.config.specs.Mux.{layerBits}
 use borrow.Author.Needs.{needs}
 use Rattle.config_writer.proofs.put_layer.Statement.{statement}
@@ -10,11 +9,8 @@ returns : tie.Need-returns
 unfolding layerBits
 returns c =
     let b = c .before .before in
-    let a = b .before .before .before .before .before in (
-      omega (arith, a .put-sent-or-same .ensures .0, b .put-frame-length .ensures .0),
-      put-then
-          (a .put-sent-or-same .ensures .1) (b .put-frame-length .ensures .1),
-    )
+    let a = b .before .before .before .before .before in
+    put-most _ _ (a .put-sent-or-same .ensures) (b .put-frame-length .ensures)
 
 pub put-layer-spec : {M : Type 1} → statement M
 put-layer-spec =

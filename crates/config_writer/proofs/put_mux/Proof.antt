@@ -1,6 +1,6 @@
 -- `config_writer::put_mux` meets its contract.
 use native.Mathlib.Omega.{arith}
-use Rattle.kernel.proofs.Laid.{put-then}
+use Rattle.kernel.proofs.Laid.{put-most}
 use Rattle.config.specs.Mux.{muxBits}
 use borrow.Author.Needs.{needs}
 use Rattle.config_writer.proofs.put_mux.Statement.{statement}
@@ -11,11 +11,11 @@ unfolding muxBits
 returns c =
     let tail = c .before .before in
     let programs = tail .before .before .before .before in
-    let head = programs .before .before .before .before in (
-      omega (arith, head .put-head .ensures .0, programs .put-programs .ensures .0, tail .put-mux-ending .ensures .0),
-      put-then (head .put-head .ensures .1)
-          (put-then (programs .put-programs .ensures .1) (tail .put-mux-ending .ensures .1)),
-    )
+    let head = programs .before .before .before .before in
+    let all =
+    put-most _ _ (head .put-head .ensures)
+    (put-most _ _ (programs .put-programs .ensures) (tail .put-mux-ending .ensures)) in
+    (omega (arith, all .0), all .1)
 
 pub put-mux-spec : {M : Type 1} → statement M
 put-mux-spec =

@@ -2,7 +2,7 @@
 use mathlib.Core.Path.{sym, _∙_}
 use native.Mathlib.Omega.{arith}
 use borrow.Author.Tests.{eq-eqb, ne-eqb}
-use Rattle.kernel.proofs.Laid.{put-then}
+use Rattle.kernel.proofs.Laid.{put-most, at-most}
 use borrow.Author.Needs.{needs}
 use Rattle.config_writer.proofs.put_sent_or_same.Statement.{statement}
 use Rattle.config_writer.proofs.put_sent_or_same.Tie as tie
@@ -32,14 +32,9 @@ returns-3 c =
     let i = a .before .before in
     let s = i .before in
     let n = s .before .before in
-    let e = ne-eqb (n .before .before .before .before .args .next) 0 (n .if1 .left) in (
-      omega (arith, a .put2 .ensures .0, b .put-config2 .ensures .0),
-      rw (
-        e,
-        sym (s .same-config .ensures)
-            ∙ i .if2 .left,
-      ) (put-then (a .put2 .ensures .1) (b .put-config2 .ensures .1)),
-    )
+    let e = ne-eqb (n .before .before .before .before .args .next) 0 (n .if1 .left) in
+    rw (e, sym (s .same-config .ensures) ∙ i .if2 .left)
+    (put-most _ _ (at-most (a .put2 .ensures)) (b .put-config2 .ensures))
 
 pub put-sent-or-same-spec : {M : Type 1} → statement M
 put-sent-or-same-spec =

@@ -5,8 +5,8 @@ use native.Mathlib.Omega.{arith}
 use denote.Ref.{now}
 use borrow.Author.Needs.{needs}
 use borrow.Author.Tests.{eq-eqb, ne-eqb}
-use Rattle.kernel.specs.Answer.{refusal, toldFetched, whyFetched}
-use Rattle.kernel.proofs.Chain.{got, gives, refuses, took}
+use Rattle.kernel.specs.Answer.{refusal, toldFetched}
+use Rattle.kernel.proofs.Chain.{got, handed, gives, refuses, took}
 use Rattle.kernel.proofs.Along.{Along, start, then, when, unless, stops, ends}
 use Rattle.config.specs.Mux.{frameLength}
 use Rattle.layer_reader.proofs.frame_length.Statement.{statement}
@@ -33,9 +33,8 @@ first c h =
 returns : tie.Need-returns
 unfolding frameLength
 returns c =
-    let q = c .before .enum-told .given .1 in
-    ap refusal (c .why .ensures ∙ ap whyFetched q)
-    ∙ stops start _ refl (got toldFetched _ _ _ _ (c .before .before .before .fetch .ensures) q)
+    let x = c .before in
+    stops start _ refl (handed (x .before .before .fetch .ensures) (x .enum-told .given .1) (c .why .ensures))
 
 fetch-requires-2 : tie.Need-fetch-requires-2
 unfolding typed
@@ -45,10 +44,8 @@ returns-2 : tie.Need-returns-2
 unfolding frameLength
 returns-2 c =
     let x = c .before in
-    let q = x .enum-told2 .given .1 in
-    ap refusal (c .why2 .ensures ∙ ap whyFetched q)
-    ∙ stops (zeroth (x .before .before .before .before .before) (omega arith)) _ refl
-    (got toldFetched _ _ _ _ (x .before .before .fetch2 .ensures) q)
+    stops (zeroth (x .before .before .before .before .before) (omega arith)) _ refl
+    (handed (x .before .before .fetch2 .ensures) (x .enum-told2 .given .1) (c .why2 .ensures))
 
 fetch-requires-3 : tie.Need-fetch-requires-3
 unfolding typed
@@ -58,10 +55,8 @@ returns-3 : tie.Need-returns-3
 unfolding frameLength
 returns-3 c =
     let x = c .before in
-    let q = x .enum-told3 .given .1 in
-    ap refusal (c .why3 .ensures ∙ ap whyFetched q)
-    ∙ stops (first (x .before .before .before .before .before) (omega arith)) _ refl
-    (got toldFetched _ _ _ _ (x .before .before .fetch3 .ensures) q)
+    stops (first (x .before .before .before .before .before) (omega arith)) _ refl
+    (handed (x .before .before .fetch3 .ensures) (x .enum-told3 .given .1) (c .why3 .ensures))
 
 returns-4 : tie.Need-returns-4
 unfolding frameLength

@@ -1,11 +1,11 @@
 -- `layer_reader::sent_or_same` meets its contract.
-use mathlib.Core.Path.{refl, ap, _∙_}
+use mathlib.Core.Path.{refl}
 use native.Mathlib.Omega.{arith}
 use denote.Ref.{now}
 use borrow.Author.Needs.{needs}
 use borrow.Author.Tests.{eq-eqb, ne-eqb}
-use Rattle.kernel.specs.Answer.{refusal, toldFetched, whyFetched}
-use Rattle.kernel.proofs.Chain.{met, got, gives}
+use Rattle.kernel.specs.Answer.{toldFetched}
+use Rattle.kernel.proofs.Chain.{met, got, handed, gives}
 use Rattle.kernel.proofs.Along.{Along, start, then, when, unless, stops, ends}
 use Rattle.config.specs.Mux.{sentOrSame}
 use Rattle.layer_reader.proofs.sent_or_same.Statement.{statement}
@@ -21,9 +21,8 @@ flagged c = then start _ refl (got toldFetched _ _ _ _ (c .before .before .fetch
 returns : tie.Need-returns
 unfolding sentOrSame
 returns c =
-    let q = c .before .enum-told .given .1 in
-    ap refusal (c .why .ensures ∙ ap whyFetched q)
-    ∙ stops start _ refl (got toldFetched _ _ _ _ (c .before .before .before .fetch .ensures) q)
+    let x = c .before in
+    stops start _ refl (handed (x .before .before .fetch .ensures) (x .enum-told .given .1) (c .why .ensures))
 
 returns-2 : tie.Need-returns-2
 unfolding sentOrSame

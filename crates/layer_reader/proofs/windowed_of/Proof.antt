@@ -1,12 +1,12 @@
 -- `layer_reader::windowed_of` meets its contract.
-use mathlib.Core.Path.{_≡_, refl, ap, _∙_}
+use mathlib.Core.Path.{_≡_, refl}
 use Prim.Native.Nat.{_+_, _-_}
 use native.Mathlib.Omega.{arith}
 use denote.Ref.{now}
 use borrow.Author.Needs.{needs}
-use Rattle.kernel.specs.Answer.{refusal, told, toldFetched, whyFetched, toldReached}
+use Rattle.kernel.specs.Answer.{told, toldFetched, toldReached}
 use Rattle.kernel.specs.Reading.{run, pass, _>>_}
-use Rattle.kernel.proofs.Chain.{got, gives}
+use Rattle.kernel.proofs.Chain.{got, handed, gives}
 use Rattle.kernel.proofs.Along.{Along, start, then, noted, stops, ends}
 use Rattle.asc.specs.Answer.{toldConfigured}
 use Rattle.config.specs.Mux.{windowed}
@@ -44,9 +44,8 @@ filled c = rw (c .before .left-of .ensures) at (c .skip .ensures)
 returns : tie.Need-returns
 unfolding windowed
 returns c =
-    let q = c .before .enum-told .given .1 in
-    ap refusal (c .why .ensures ∙ ap whyFetched q)
-    ∙ stops start _ refl (got toldFetched _ _ _ _ (c .before .before .before .latm-get-value .ensures) q)
+    let x = c .before in
+    stops start _ refl (handed (x .before .before .latm-get-value .ensures) (x .enum-told .given .1) (c .why .ensures))
 
 add-end : tie.Need-add-end
 unfolding measured

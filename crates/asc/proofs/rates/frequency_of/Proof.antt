@@ -4,8 +4,8 @@ use Prim.Native.Nat.{ℕ, _≤_, _<_}
 use native.Mathlib.Omega.{arith}
 use borrow.Author.Needs.{needs}
 use borrow.Author.Tests.{le-leb, lt-leb, eq-eqb, ne-eqb}
-use Rattle.kernel.specs.Answer.{refusal, toldFetched, whyFetched}
-use Rattle.kernel.proofs.Chain.{met, got, so, gives, refuses, yes-way, no-way, on, off, steady, took}
+use Rattle.kernel.specs.Answer.{refusal, toldFetched}
+use Rattle.kernel.proofs.Chain.{met, got, handed, so, gives, refuses, yes-way, no-way, on, off, steady, took}
 use Rattle.asc.specs.Asc.{frequency}
 use Rattle.asc.proofs.rates.frequency_of.Statement.{statement}
 use Rattle.asc.proofs.rates.frequency_of.Tie as tie
@@ -13,9 +13,8 @@ use Rattle.asc.proofs.rates.frequency_of.Tie as tie
 returns : tie.Need-returns
 unfolding frequency
 returns c =
-    let q = c .before .enum-told .given .1 in
-    ap refusal (c .why .ensures ∙ ap whyFetched q)
-    ∙ so (off _ (got toldFetched _ _ _ _ (c .before .before .before .take-at .ensures) q))
+    let x = c .before in
+    so (off _ (handed (x .before .before .take-at .ensures) (x .enum-told .given .1) (c .why .ensures)))
 
 hertz-of-requires : tie.Need-hertz-of-requires
 hertz-of-requires c κs =

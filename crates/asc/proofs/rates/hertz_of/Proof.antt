@@ -4,8 +4,8 @@ use Prim.Native.Nat.{ℕ, _≤_, _<_}
 use native.Mathlib.Omega.{arith}
 use borrow.Author.Needs.{needs}
 use borrow.Author.Tests.{le-leb, lt-leb}
-use Rattle.kernel.specs.Answer.{refusal, toldFetched, whyFetched}
-use Rattle.kernel.proofs.Chain.{got, so, gives, holds, fails, on, off, took}
+use Rattle.kernel.specs.Answer.{refusal, toldFetched}
+use Rattle.kernel.proofs.Chain.{got, handed, so, gives, holds, fails, on, off, took}
 use Rattle.asc.specs.Asc.{hertz}
 use Rattle.asc.proofs.rates.hertz_of.Statement.{statement}
 use Rattle.asc.proofs.rates.hertz_of.Tie as tie
@@ -13,9 +13,8 @@ use Rattle.asc.proofs.rates.hertz_of.Tie as tie
 returns : tie.Need-returns
 unfolding hertz
 returns c =
-    let q = c .before .enum-told .given .1 in
-    ap refusal (c .why .ensures ∙ ap whyFetched q)
-    ∙ so (off _ (got toldFetched _ _ _ _ (c .before .before .before .take-at .ensures) q))
+    let x = c .before in
+    so (off _ (handed (x .before .before .take-at .ensures) (x .enum-told .given .1) (c .why .ensures)))
 
 returns-2 : tie.Need-returns-2
 unfolding hertz

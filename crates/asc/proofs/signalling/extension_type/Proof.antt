@@ -4,8 +4,8 @@ use Prim.Native.Nat.{ℕ}
 use native.Mathlib.Omega.{arith}
 use borrow.Author.Needs.{needs}
 use borrow.Author.Tests.{eq-eqb, ne-eqb}
-use Rattle.kernel.specs.Answer.{refusal, toldFetched, whyFetched}
-use Rattle.kernel.proofs.Chain.{met, got, so, gives, refuses, yes-way, no-way, on, off, steady}
+use Rattle.kernel.specs.Answer.{refusal, toldFetched}
+use Rattle.kernel.proofs.Chain.{met, got, handed, so, gives, refuses, yes-way, no-way, on, off, steady}
 use Rattle.asc.specs.Asc.{extensionType}
 use Rattle.asc.proofs.Types.{five-bits}
 use Rattle.asc.proofs.signalling.extension_type.Statement.{statement}
@@ -14,9 +14,8 @@ use Rattle.asc.proofs.signalling.extension_type.Tie as tie
 returns : tie.Need-returns
 unfolding extensionType
 returns c =
-    let q = c .before .enum-told .given .1 in
-    ap refusal (c .why .ensures ∙ ap whyFetched q)
-    ∙ so (off _ (got toldFetched _ _ _ _ (c .before .before .before .any-type .ensures) q))
+    let x = c .before in
+    so (off _ (handed (x .before .before .any-type .ensures) (x .enum-told .given .1) (c .why .ensures)))
 
 sbr-extension-requires : tie.Need-sbr-extension-requires
 sbr-extension-requires c κs =

@@ -1,10 +1,9 @@
 -- `asc::signalling::ps_extension` meets its contract.
-use mathlib.Core.Path.{ap, _∙_}
 use native.Mathlib.Omega.{arith}
 use borrow.Author.Needs.{needs}
 use borrow.Author.Tests.{eq-eqb, ne-eqb}
-use Rattle.kernel.specs.Answer.{refusal, toldFetched, whyFetched}
-use Rattle.kernel.proofs.Chain.{got, so, gives, yes-way, no-way, on, off, steady}
+use Rattle.kernel.specs.Answer.{toldFetched}
+use Rattle.kernel.proofs.Chain.{got, handed, so, gives, yes-way, no-way, on, off, steady}
 use Rattle.asc.specs.Asc.{psExtension}
 use Rattle.asc.proofs.signalling.ps_extension.Statement.{statement}
 use Rattle.asc.proofs.signalling.ps_extension.Tie as tie
@@ -12,9 +11,8 @@ use Rattle.asc.proofs.signalling.ps_extension.Tie as tie
 returns : tie.Need-returns
 unfolding psExtension
 returns c =
-    let q = c .before .enum-told .given .1 in
-    ap refusal (c .why .ensures ∙ ap whyFetched q)
-    ∙ so (off _ (got toldFetched _ _ _ _ (c .before .before .before .take-at .ensures) q))
+    let x = c .before in
+    so (off _ (handed (x .before .before .take-at .ensures) (x .enum-told .given .1) (c .why .ensures)))
 
 take-at-requires-2 : tie.Need-take-at-requires-2
 take-at-requires-2 c κs =
@@ -29,13 +27,11 @@ returns-2 : tie.Need-returns-2
 unfolding psExtension
 returns-2 c =
     let d = c .before in
-    let q = d .enum-told2 .given .1 in
     let i = d .before .before .before in
     let f = i .before .before in
-    ap refusal (c .why2 .ensures ∙ ap whyFetched q)
-    ∙ so (on _ (got toldFetched _ _ _ _ (f .before .before .take-at .ensures) (f .sync .given .1))
+    so (on _ (got toldFetched _ _ _ _ (f .before .before .take-at .ensures) (f .sync .given .1))
     (yes-way _ (eq-eqb _ 1352 (i .if1 .taken))
-    (off _ (got toldFetched _ _ _ _ (d .before .before .take-at2 .ensures) q))))
+    (off _ (handed (d .before .before .take-at2 .ensures) (d .enum-told2 .given .1) (c .why2 .ensures)))))
 
 returns-3 : tie.Need-returns-3
 unfolding psExtension

@@ -1,11 +1,11 @@
 -- `asc::signalling::sbr_extension` meets its contract.
-use mathlib.Core.Path.{refl, ap, _∙_}
+use mathlib.Core.Path.{refl}
 use native.Mathlib.Omega.{arith}
 use denote.Ref.{now}
 use borrow.Author.Needs.{needs}
 use borrow.Author.Tests.{eq-eqb, ne-eqb}
-use Rattle.kernel.specs.Answer.{refusal, toldFetched, whyFetched}
-use Rattle.kernel.proofs.Chain.{met, got, gives}
+use Rattle.kernel.specs.Answer.{toldFetched}
+use Rattle.kernel.proofs.Chain.{met, got, handed, gives}
 use Rattle.kernel.proofs.Along.{Along, start, then, when, unless, stops, ends}
 use Rattle.asc.specs.Asc.{sbrExtension}
 use Rattle.asc.specs.Answer.{toldRated}
@@ -32,9 +32,8 @@ rated c =
 returns : tie.Need-returns
 unfolding sbrExtension
 returns c =
-    let q = c .before .enum-told .given .1 in
-    ap refusal (c .why .ensures ∙ ap whyFetched q)
-    ∙ stops start _ refl (got toldFetched _ _ _ _ (c .before .before .before .take-at .ensures) q)
+    let x = c .before in
+    stops start _ refl (handed (x .before .before .take-at .ensures) (x .enum-told .given .1) (c .why .ensures))
 
 frequency-of-requires : tie.Need-frequency-of-requires
 unfolding flagged

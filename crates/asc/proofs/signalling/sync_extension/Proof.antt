@@ -1,10 +1,9 @@
 -- `asc::signalling::sync_extension` meets its contract.
-use mathlib.Core.Path.{ap, _∙_}
 use native.Mathlib.Omega.{arith}
 use borrow.Author.Needs.{needs}
 use borrow.Author.Tests.{eq-eqb, ne-eqb}
-use Rattle.kernel.specs.Answer.{refusal, toldFetched, whyFetched}
-use Rattle.kernel.proofs.Chain.{met, got, so, gives, yes-way, no-way, on, off, steady}
+use Rattle.kernel.specs.Answer.{toldFetched}
+use Rattle.kernel.proofs.Chain.{met, got, handed, so, gives, yes-way, no-way, on, off, steady}
 use Rattle.asc.specs.Asc.{syncExtension}
 use Rattle.asc.proofs.signalling.sync_extension.Statement.{statement}
 use Rattle.asc.proofs.signalling.sync_extension.Tie as tie
@@ -12,9 +11,8 @@ use Rattle.asc.proofs.signalling.sync_extension.Tie as tie
 returns : tie.Need-returns
 unfolding syncExtension
 returns c =
-    let q = c .before .enum-told .given .1 in
-    ap refusal (c .why .ensures ∙ ap whyFetched q)
-    ∙ so (off _ (got toldFetched _ _ _ _ (c .before .before .before .take-at .ensures) q))
+    let x = c .before in
+    so (off _ (handed (x .before .before .take-at .ensures) (x .enum-told .given .1) (c .why .ensures)))
 
 extension-type-requires : tie.Need-extension-type-requires
 extension-type-requires c κs =

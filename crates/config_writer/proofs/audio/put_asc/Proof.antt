@@ -1,7 +1,6 @@
 -- `config_writer::audio::put_asc` meets its contract.
-use native.Mathlib.Omega.{arith}
 use Rattle.kernel.specs.Bits.{bitsOf}
-use Rattle.kernel.proofs.Laid.{put-then, put-three}
+use Rattle.kernel.proofs.Laid.{put-most, put-three, at-most}
 use Rattle.asc.specs.Asc.{ascBits}
 use borrow.Author.Needs.{needs}
 use Rattle.config_writer.proofs.audio.put_asc.Statement.{statement}
@@ -17,22 +16,10 @@ returns c =
     let freq = channels .before .before .before .before in
     let front = freq .before .before .before .before in
     let x = front .before .before .before .before .args .c in
-    let p = rw (front .before .front-of .ensures) at (front .put .ensures .1) in (
-      omega (
-        arith,
-        tail .put-tail .ensures .0,
-        flags .put-flags .ensures .0,
-        under .put-under .ensures .0,
-        channels .put2 .ensures .0,
-        freq .put-freq .ensures .0,
-        front .put .ensures .0,
-      ),
-      put-then p (put-then (freq .put-freq .ensures .1)
-          (put-then (channels .put2 .ensures .1)
-          (put-then (under .put-under .ensures .1)
-          (put-three (bitsOf 1 (x .flag)) (bitsOf 1 (x .depends)) (bitsOf 1 (x .extension))
-          (flags .put-flags .ensures .1) (tail .put-tail .ensures .1))))),
-    )
+    let p = rw (front .before .front-of .ensures) at (front .put .ensures) in
+    put-most _ _ (at-most p) (put-most _ _ (freq .put-freq .ensures) (put-most _ _ (at-most (channels .put2 .ensures))
+    (put-most _ _ (under .put-under .ensures) (put-three _ _ (bitsOf 1 (x .flag)) (bitsOf 1 (x .depends))
+    (bitsOf 1 (x .extension)) (flags .put-flags .ensures) (tail .put-tail .ensures)))))
 
 pub put-asc-spec : {M : Type 1} → statement M
 put-asc-spec =

@@ -1,6 +1,6 @@
 -- `config_writer::audio::put_freq` meets its contract.
 use native.Mathlib.Omega.{arith}
-use Rattle.kernel.proofs.Laid.{put-then}
+use Rattle.kernel.proofs.Laid.{put-exact, at-most}
 use Rattle.asc.specs.Asc.{freqBits}
 use borrow.Author.Needs.{needs}
 use Rattle.config_writer.proofs.audio.put_freq.Statement.{statement}
@@ -16,11 +16,8 @@ returns-2 : tie.Need-returns-2
 unfolding freqBits
 returns-2 c =
     let b = c .before .before in
-    let a = b .before .before .before .before in (
-      omega (arith, b .put3 .ensures .0, a .put2 .ensures .0),
-      rw (a .before .before .before .f2 .given .1)
-          (put-then (a .put2 .ensures .1) (b .put3 .ensures .1)),
-    )
+    let a = b .before .before .before .before in
+    rw (a .before .before .before .f2 .given .1) (at-most (put-exact _ _ (a .put2 .ensures) (b .put3 .ensures)))
 
 pub put-freq-spec : {M : Type 1} → statement M
 put-freq-spec =

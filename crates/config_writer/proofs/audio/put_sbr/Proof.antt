@@ -1,6 +1,5 @@
 -- `config_writer::audio::put_sbr` meets its contract.
-use native.Mathlib.Omega.{arith}
-use Rattle.kernel.proofs.Laid.{put-then}
+use Rattle.kernel.proofs.Laid.{put-exact}
 use borrow.Author.Needs.{needs}
 use Rattle.config_writer.proofs.audio.put_sbr.Statement.{statement}
 use Rattle.config_writer.proofs.audio.put_sbr.Tie as tie
@@ -9,11 +8,8 @@ returns : tie.Need-returns
 returns c =
     let p = c .before .before in
     let b = p .before .before .before .before in
-    let a = b .before .before .before .before in (
-      omega (arith, a .put .ensures .0, b .put2 .ensures .0, p .put3 .ensures .0),
-      put-then (a .put .ensures .1)
-          (put-then (b .put2 .ensures .1) (p .put3 .ensures .1)),
-    )
+    let a = b .before .before .before .before in
+    put-exact _ _ (a .put .ensures) (put-exact _ _ (b .put2 .ensures) (p .put3 .ensures))
 
 pub put-sbr-spec : {M : Type 1} → statement M
 put-sbr-spec = tie.close (tie.spec

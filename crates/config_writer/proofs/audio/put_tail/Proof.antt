@@ -1,7 +1,7 @@
 -- `config_writer::audio::put_tail` meets its contract.
 use native.Mathlib.Omega.{arith}
 use Rattle.kernel.specs.Bits.{bitsOf}
-use Rattle.kernel.proofs.Laid.{put-then, put-none, put-three}
+use Rattle.kernel.proofs.Laid.{put-none, put-exact, put-most, put-three, at-most}
 use Rattle.asc.specs.Asc.{tailBits}
 use borrow.Author.Needs.{needs}
 use Rattle.config_writer.proofs.audio.put_tail.Statement.{statement}
@@ -29,11 +29,10 @@ returns-5 : tie.Need-returns-5
 unfolding tailBits
 returns-5 c =
     let b = c .before .before in
-    let a = b .before .before .before .before in (
-      omega (arith, b .put-freq .ensures .0, a .put-sbr2 .ensures .0),
-      rw (a .before .before .before .form .given .1)
-          (put-three (bitsOf 11 695) (bitsOf 5 5) (bitsOf 1 1) (a .put-sbr2 .ensures .1) (b .put-freq .ensures .1)),
-    )
+    let a = b .before .before .before .before in
+    let all =
+    put-three _ _ (bitsOf 11 695) (bitsOf 5 5) (bitsOf 1 1) (a .put-sbr2 .ensures) (b .put-freq .ensures) in
+    (omega (arith, all .0), rw (a .before .before .before .form .given .1) (all .1))
 
 returns-6 : tie.Need-returns-6
 unfolding tailBits
@@ -42,12 +41,9 @@ returns-6 c =
     let s = p .before .before .before .before in
     let b = s .before .before .before .before in
     let a = b .before .before .before .before in
-    let e = a .before .before .before .form2 .given .1 in (
-      omega (arith, p .put2 .ensures .0, s .put .ensures .0, b .put-freq2 .ensures .0, a .put-sbr3 .ensures .0),
-      rw e
-          (put-three (bitsOf 11 695) (bitsOf 5 5) (bitsOf 1 1) (a .put-sbr3 .ensures .1)
-          (put-then (b .put-freq2 .ensures .1) (put-then (s .put .ensures .1) (p .put2 .ensures .1)))),
-    )
+    rw (a .before .before .before .form2 .given .1)
+    (put-three _ _ (bitsOf 11 695) (bitsOf 5 5) (bitsOf 1 1) (a .put-sbr3 .ensures)
+    (put-most _ _ (b .put-freq2 .ensures) (at-most (put-exact _ _ (s .put .ensures) (p .put2 .ensures)))))
 
 pub put-tail-spec : {M : Type 1} → statement M
 put-tail-spec =

@@ -1,6 +1,6 @@
 -- `config_writer::audio::put_under` meets its contract.
 use native.Mathlib.Omega.{arith}
-use Rattle.kernel.proofs.Laid.{put-then, put-none}
+use Rattle.kernel.proofs.Laid.{put-none, put-most, at-most}
 use Rattle.asc.specs.Asc.{underBits}
 use borrow.Author.Needs.{needs}
 use Rattle.config_writer.proofs.audio.put_under.Statement.{statement}
@@ -14,21 +14,15 @@ returns-2 : tie.Need-returns-2
 unfolding underBits
 returns-2 c =
     let b = c .before .before in
-    let a = b .before .before .before .before in (
-      omega (arith, b .put .ensures .0, a .put-freq .ensures .0),
-      rw (a .before .before .before .form .given .1)
-          (put-then (a .put-freq .ensures .1) (b .put .ensures .1)),
-    )
+    let a = b .before .before .before .before in
+    rw (a .before .before .before .form .given .1) (put-most _ _ (a .put-freq .ensures) (at-most (b .put .ensures)))
 
 returns-3 : tie.Need-returns-3
 unfolding underBits
 returns-3 c =
     let b = c .before .before in
-    let a = b .before .before .before .before in (
-      omega (arith, b .put2 .ensures .0, a .put-freq2 .ensures .0),
-      rw (a .before .before .before .form2 .given .1)
-          (put-then (a .put-freq2 .ensures .1) (b .put2 .ensures .1)),
-    )
+    let a = b .before .before .before .before in
+    rw (a .before .before .before .form2 .given .1) (put-most _ _ (a .put-freq2 .ensures) (at-most (b .put2 .ensures)))
 
 returns-4 : tie.Need-returns-4
 unfolding underBits

@@ -1,34 +1,26 @@
 -- `script::map::set_all` meets its contract.
-use mathlib.Core.Path.{_≡_, refl}
-use mathlib.Core.List.{_++_}
-use Prim.Native.Nat.{_≤_, _-_}
+use Prim.Native.Nat.{_-_}
 use native.Mathlib.Omega.{arith}
-use lib.ListN.{length, drop}
+use lib.ListN.{length}
 use borrow.Author.Needs.{needs}
-use Rattle.kernel.specs.Lists.{tab}
-use Rattle.kernel.proofs.Lists.{tab-none, tab-more}
-use Rattle.records.proofs.Tables.{tab-all}
+use Rattle.script.proofs.Sevens.{Set, set-none, set-more, set-all}
 use Rattle.script.proofs.map.set_all.Statement.{statement}
 use Rattle.script.proofs.map.set_all.Tie as tie
 
 abbrev Inv-loop : tie.InvT-loop
-Inv-loop map₀ i₀ map i = (length map ≡ length map₀) × (i ≤ length map₀) × (map ≡ tab i (λ _. 7) ++ drop i map₀)
+Inv-loop map₀ i₀ map i = Set map₀ map i
 
 abbrev μ-loop : tie.MeasureT-loop
 μ-loop map₀ i₀ map i = length map₀ - i
 
 loop-holds : tie.Need-loop-holds Inv-loop μ-loop
-loop-holds c = (search needs, search needs, tab-none _ _)
+loop-holds c = set-none _
 
 loop-again : tie.Need-loop-again Inv-loop μ-loop
-loop-again c =
-    let l = c .before .loop in (search needs, search needs, rw (l .inv .2) (tab-more _ _ _ _ (omega arith) refl))
+loop-again c = set-more (c .before .loop .inv) (omega arith)
 
 returns : tie.Need-returns Inv-loop μ-loop
-returns c =
-    let l = c .before .loop in
-    let e : l .i ≡ length (c .before .before .args .map .now) = omega arith in
-    tab-all _ _ _ _ (rw e at (l .inv .2)) refl
+returns c = set-all (c .before .loop .inv) (omega arith)
 
 pub set-all-spec : {M : Type 1} → statement M
 set-all-spec =

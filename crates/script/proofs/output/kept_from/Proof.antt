@@ -1,33 +1,26 @@
 -- `script::output::kept_from` meets its contract.
-use mathlib.Core.Path.{_≡_}
-use Prim.Native.Nat.{_-_, _≤_}
+use Prim.Native.Nat.{_-_}
 use native.Mathlib.Omega.{arith}
 use lib.ListN.{length}
 use borrow.Author.Needs.{needs}
-use Rattle.script.proofs.Sevens.{sevensUpTo, sevens-none, sevens-more, sevens-all}
+use Rattle.script.proofs.Sevens.{Kept, kept-none, kept-more, kept-all}
 use Rattle.script.proofs.output.kept_from.Statement.{statement}
 use Rattle.script.proofs.output.kept_from.Tie as tie
 
 abbrev Inv-loop : tie.InvT-loop
-Inv-loop out from kept₀ i₀ kept i = (from ≤ i) × (i - from ≤ length out - from) × (kept ≡ sevensUpTo out from i)
+Inv-loop out from kept₀ i₀ kept i = Kept out from kept i
 
 abbrev μ-loop : tie.MeasureT-loop
 μ-loop out from kept₀ i₀ kept i = length out - i
 
 loop-holds : tie.Need-loop-holds Inv-loop μ-loop
-loop-holds c = (omega arith, omega arith, sevens-none (c .args .out .now) (c .args .from))
+loop-holds c = kept-none _ _
 
 loop-again : tie.Need-loop-again Inv-loop μ-loop
-loop-again c =
-    let l = c .before .before in
-    let a = l .before .args in
-    (omega arith, omega arith, sevens-more (a .out .now) (a .from) (l .loop .i) (l .loop .inv .0) (l .loop .inv .2))
+loop-again c = let l = c .before .before in kept-more _ _ _ (l .loop .inv) (omega arith)
 
 returns : tie.Need-returns Inv-loop μ-loop
-returns c =
-    let l = c .before in
-    let a = l .before .args in
-    sevens-all (a .out .now) (a .from) (l .loop .i) (l .loop .inv .0) (l .loop .inv .1) (omega arith) (l .loop .inv .2)
+returns c = kept-all _ _ _ (c .before .loop .inv) (omega arith)
 
 pub kept-from-spec : {M : Type 1} → statement M
 kept-from-spec =
