@@ -1,14 +1,12 @@
 -- `reader::element_of` meets its contract.
 use mathlib.Core.Path.{ap, sym, _≡_, _∙_}
-use mathlib.Core.Bool.{true, false}
 use native.Mathlib.Omega.{arith}
 use borrow.Author.Needs.{needs}
 use Rattle.kernel.specs.Answer.{value, toldFetched, whyFetched}
 use Rattle.kernel.specs.Reading.{field}
 use Rattle.kernel.proofs.Chain.{Comes, got, steady, took}
 use Rattle.element.specs.Mux.{usable}
-use Rattle.element.specs.Reply.{mapAfter, tableAfter}
-use Rattle.reader.specs.Prepared.{repliedBy, unsentReply}
+use Rattle.reader.specs.Prepared.{unsentReply}
 use Rattle.reader.proofs.Preparing.{same-flag, plan-of-held}
 use Rattle.reader.proofs.Whole.{flag-refused, flag-sent, held-leaves}
 use Rattle.reader.proofs.Whole.{flag-short, flag-0, flag-1, flag-unheld}

@@ -1,11 +1,7 @@
 -- `reader::read_prepared` meets its contract.
-use mathlib.Core.Path.{ap, sym, _∙_}
 use native.Mathlib.Omega.{arith}
 use lib.ListN.{length}
 use borrow.Author.Needs.{needs}
-use Rattle.kernel.specs.declared.Refusal.{Refusal}
-use Rattle.element.specs.declared.Verdict.the-variants.{Refused}
-use Rattle.reader.specs.Prepared.{unsentReply}
 use Rattle.reader.proofs.Whole.{early, map-small, length-none, length-over, length-right}
 use Rattle.reader.proofs.read_prepared.Statement.{statement}
 use Rattle.reader.proofs.read_prepared.Tie as tie

@@ -64,8 +64,8 @@ left t =
     let f = pl .before .before .before in
     let s = f .before .before .before .before .before .before in
     let a = s .args in
-    sent-leaves (a .el .now) (a .c .at) (a .c .fields) (a .prepared) (a .map .now) (a .table .now) _ _ _ (s .pre .1) (ran f)
-    _ (pl .plan-of .ensures) (t .finish .ensures)
+    sent-leaves (a .el .now) (a .c .at) (a .c .fields) (a .prepared) (a .map .now) (a .table .now) _ _ _ (s .pre .1)
+    (ran f) _ (pl .plan-of .ensures) (t .finish .ensures)
 
 returns-2 : tie.Need-returns-2
 returns-2 c =

@@ -1,11 +1,11 @@
 -- `summary::lay_frames` meets its contract.
-use mathlib.Core.Path.{_≡_, sym, subst}
+use mathlib.Core.Path.{_≡_}
 use Prim.Native.Nat.{_+_, _-_, _≤_, _<_}
 use native.Mathlib.Omega.{arith}
 use lib.ListN.{length}
 use borrow.Author.Tests.{le-leb, lt-leb}
 use Rattle.reader.specs.Prepared.{preparedOf}
-use Rattle.capture.specs.Frames.{Point, pointAt}
+use Rattle.capture.specs.Frames.{pointAt}
 use Rattle.capture.proofs.Steps.{Took, mark-at, took, took-none, took-further, prepared-then, point-then}
 use Rattle.capture.proofs.Blocks.{Left, left-all, left-on, left-none, left-full}
 use Rattle.summary.specs.Summary.{framed, saidThen}

@@ -1,10 +1,10 @@
 -- `config_reader::ending_fields::ending_of` meets its contract.
-use mathlib.Core.Path.{refl, ap, _∙_}
+use mathlib.Core.Path.{refl}
 use native.Mathlib.Omega.{arith}
 use denote.Ref.{now}
 use borrow.Author.Needs.{needs}
-use Rattle.kernel.specs.Answer.{refusal, toldFetched, whyFetched}
-use Rattle.kernel.proofs.Chain.{got, gives}
+use Rattle.kernel.specs.Answer.{toldFetched}
+use Rattle.kernel.proofs.Chain.{got, handed, gives}
 use Rattle.kernel.proofs.Along.{Along, start, then, stops, ends}
 use Rattle.config.specs.Mux.{muxEnding}
 use Rattle.config_reader.proofs.ending_fields.ending_of.Statement.{statement}
@@ -51,9 +51,8 @@ returns : tie.Need-returns
 unfolding muxEnding
 returns c =
     let x = c .before in
-    let q = x .enum-told .given .1 in
-    ap refusal (c .why .ensures ∙ ap whyFetched q)
-    ∙ stops start _ refl (got toldFetched _ _ _ _ (x .before .before .fetch .ensures) q)
+    stops start _ refl
+    (handed (x .before .before .fetch .ensures) (x .enum-told .given .1) (c .why .ensures))
 
 other-if-requires : tie.Need-other-if-requires
 unfolding present
@@ -63,10 +62,8 @@ returns-2 : tie.Need-returns-2
 unfolding muxEnding
 returns-2 c =
     let x = c .before in
-    let q = x .enum-told2 .given .1 in
-    ap refusal (c .why2 .ensures ∙ ap whyFetched q)
-    ∙ stops (present (x .before .before .before .before)) _ refl
-    (got toldFetched _ _ _ _ (x .before .before .other-if .ensures) q)
+    stops (present (x .before .before .before .before)) _ refl
+    (handed (x .before .before .other-if .ensures) (x .enum-told2 .given .1) (c .why2 .ensures))
 
 fetch-requires-2 : tie.Need-fetch-requires-2
 unfolding measured
@@ -76,10 +73,8 @@ returns-3 : tie.Need-returns-3
 unfolding muxEnding
 returns-3 c =
     let x = c .before in
-    let q = x .enum-told3 .given .1 in
-    ap refusal (c .why3 .ensures ∙ ap whyFetched q)
-    ∙ stops (measured (x .before .before .before .before)) _ refl
-    (got toldFetched _ _ _ _ (x .before .before .fetch2 .ensures) q)
+    stops (measured (x .before .before .before .before)) _ refl
+    (handed (x .before .before .fetch2 .ensures) (x .enum-told3 .given .1) (c .why3 .ensures))
 
 crc-if-requires : tie.Need-crc-if-requires
 unfolding checked
@@ -89,10 +84,8 @@ returns-4 : tie.Need-returns-4
 unfolding muxEnding
 returns-4 c =
     let x = c .before in
-    let q = x .enum-told4 .given .1 in
-    ap refusal (c .why4 .ensures ∙ ap whyFetched q)
-    ∙ stops (checked (x .before .before .before .before)) _ refl
-    (got toldFetched _ _ _ _ (x .before .before .crc-if .ensures) q)
+    stops (checked (x .before .before .before .before)) _ refl
+    (handed (x .before .before .crc-if .ensures) (x .enum-told4 .given .1) (c .why4 .ensures))
 
 returns-5 : tie.Need-returns-5
 unfolding muxEnding

@@ -4,8 +4,8 @@ use native.Mathlib.Omega.{arith}
 use denote.Ref.{now}
 use borrow.Author.Needs.{needs}
 use borrow.Author.Tests.{eq-eqb, ne-eqb}
-use Rattle.kernel.specs.Answer.{refusal, toldFetched, whyFetched}
-use Rattle.kernel.proofs.Chain.{got, gives, fails, took}
+use Rattle.kernel.specs.Answer.{refusal, toldFetched}
+use Rattle.kernel.proofs.Chain.{got, handed, gives, fails, took}
 use Rattle.kernel.proofs.Along.{Along, start, then, needed, stops, ends}
 use Rattle.config.specs.Mux.{muxHead}
 use Rattle.config_reader.proofs.head_fields.head_of.Statement.{statement}
@@ -75,11 +75,8 @@ returns : tie.Need-returns
 unfolding muxHead
 returns c =
     let x = c .before in
-    let q = x .enum-told .given .1 in (
-      ap refusal (c .why .ensures ∙ ap whyFetched q)
-          ∙ stops start _ refl (got toldFetched _ _ _ _ (x .before .before .fetch .ensures) q),
-      tt,
-    )
+    let h = handed (x .before .before .fetch .ensures) (x .enum-told .given .1) (c .why .ensures) in
+    (stops start _ refl h, tt)
 
 subversion-if-requires : tie.Need-subversion-if-requires
 unfolding versioned
@@ -89,12 +86,8 @@ returns-2 : tie.Need-returns-2
 unfolding muxHead
 returns-2 c =
     let x = c .before in
-    let q = x .enum-told2 .given .1 in (
-      ap refusal (c .why2 .ensures ∙ ap whyFetched q)
-          ∙ stops (versioned (x .before .before .before .before)) _ refl
-          (got toldFetched _ _ _ _ (x .before .before .subversion-if .ensures) q),
-      tt,
-    )
+    let h = handed (x .before .before .subversion-if .ensures) (x .enum-told2 .given .1) (c .why2 .ensures) in
+    (stops (versioned (x .before .before .before .before)) _ refl h, tt)
 
 tara-if-requires : tie.Need-tara-if-requires
 unfolding varied
@@ -104,12 +97,8 @@ returns-3 : tie.Need-returns-3
 unfolding muxHead
 returns-3 c =
     let x = c .before in
-    let q = x .enum-told3 .given .1 in (
-      ap refusal (c .why3 .ensures ∙ ap whyFetched q)
-          ∙ stops (varied (x .before .before .before .before)) _ refl
-          (got toldFetched _ _ _ _ (x .before .before .tara-if .ensures) q),
-      tt,
-    )
+    let h = handed (x .before .before .tara-if .ensures) (x .enum-told3 .given .1) (c .why3 .ensures) in
+    (stops (varied (x .before .before .before .before)) _ refl h, tt)
 
 fetch-requires-2 : tie.Need-fetch-requires-2
 unfolding taraed
@@ -119,12 +108,8 @@ returns-4 : tie.Need-returns-4
 unfolding muxHead
 returns-4 c =
     let x = c .before in
-    let q = x .enum-told4 .given .1 in (
-      ap refusal (c .why4 .ensures ∙ ap whyFetched q)
-          ∙ stops (taraed (x .before .before .before .before)) _ refl
-          (got toldFetched _ _ _ _ (x .before .before .fetch2 .ensures) q),
-      tt,
-    )
+    let h = handed (x .before .before .fetch2 .ensures) (x .enum-told4 .given .1) (c .why4 .ensures) in
+    (stops (taraed (x .before .before .before .before)) _ refl h, tt)
 
 returns-5 : tie.Need-returns-5
 unfolding muxHead
@@ -145,12 +130,8 @@ returns-6 : tie.Need-returns-6
 unfolding muxHead
 returns-6 c =
     let x = c .before in
-    let q = x .enum-told5 .given .1 in (
-      ap refusal (c .why5 .ensures ∙ ap whyFetched q)
-          ∙ stops (together (x .before .before .before)) _ refl
-          (got toldFetched _ _ _ _ (x .before .before .fetch3 .ensures) q),
-      tt,
-    )
+    let h = handed (x .before .before .fetch3 .ensures) (x .enum-told5 .given .1) (c .why5 .ensures) in
+    (stops (together (x .before .before .before)) _ refl h, tt)
 
 fetch-requires-4 : tie.Need-fetch-requires-4
 unfolding divided
@@ -160,12 +141,8 @@ returns-7 : tie.Need-returns-7
 unfolding muxHead
 returns-7 c =
     let x = c .before in
-    let q = x .enum-told6 .given .1 in (
-      ap refusal (c .why6 .ensures ∙ ap whyFetched q)
-          ∙ stops (divided (x .before .before .before .before)) _ refl
-          (got toldFetched _ _ _ _ (x .before .before .fetch4 .ensures) q),
-      tt,
-    )
+    let h = handed (x .before .before .fetch4 .ensures) (x .enum-told6 .given .1) (c .why6 .ensures) in
+    (stops (divided (x .before .before .before .before)) _ refl h, tt)
 
 returns-8 : tie.Need-returns-8
 unfolding muxHead

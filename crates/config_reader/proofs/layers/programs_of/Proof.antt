@@ -1,12 +1,12 @@
 -- `config_reader::layers::programs_of` meets its contract.
-use mathlib.Core.Path.{refl, ap, _∙_}
+use mathlib.Core.Path.{refl}
 use Prim.Native.Nat.{_+_, _-_, _≤_}
 use native.Mathlib.Omega.{arith}
 use denote.Ref.{now}
 use borrow.Author.Needs.{needs}
-use Rattle.kernel.specs.Answer.{refusal, told, toldFetched, whyFetched}
+use Rattle.kernel.specs.Answer.{told, toldFetched}
 use Rattle.kernel.specs.Reading.{run}
-use Rattle.kernel.proofs.Chain.{Comes, got}
+use Rattle.kernel.proofs.Chain.{Comes, got, handed}
 use Rattle.kernel.specs.declared.Fetched.the-variants.{Value}
 use Rattle.config.specs.Mux.{programs, noPlaces}
 use Rattle.layer_reader.specs.Answer.{toldStreamed}
@@ -44,12 +44,10 @@ returns : tie.Need-returns Inv-loop μ-loop
 returns c =
     let w = c .before in
     let d = w .before in
-    let q = d .enum-told .given .1 in
     let t = d .before .before .before in
     refusing _ _ _ _ _ _ _ _ (c .refused-placed .ensures .0) (c .refused-placed .ensures .1)
-    (ap refusal (w .why .ensures ∙ ap whyFetched q)
-    ∙ program-stop (t .before .before .loop .inv) (omega arith) (begins t)
-    (got toldFetched _ _ _ _ (d .before .before .num-layer .ensures) q))
+    (program-stop (t .before .before .loop .inv) (omega arith) (begins t)
+    (handed (d .before .before .num-layer .ensures) (d .enum-told .given .1) (w .why .ensures)))
 
 array-write-layers : tie.Need-array-write-layers Inv-loop μ-loop
 array-write-layers c = omega (arith, begins (c .before .before .before .before))

@@ -1,46 +1,28 @@
 -- `record_words::lay::lay` meets its contract.
-use mathlib.Core.Path.{_≡_, refl}
-use Prim.Native.Nat.{_≤_, _-_}
+use mathlib.Core.Path.{refl}
+use Prim.Native.Nat.{_-_}
 use native.Mathlib.Omega.{arith}
-use lib.ListN.{length, take}
-use lib.Seq.{sets, take-length}
-use lib.ListN.{length-set}
+use lib.ListN.{length}
 use borrow.Author.Needs.{needs}
-use Rattle.kernel.proofs.Lists.{sets-more}
+use Rattle.kernel.proofs.Lists.{Laying, laying-none, laying-more, laying-all}
 use Rattle.record_words.proofs.lay.lay.Statement.{statement}
 use Rattle.record_words.proofs.lay.lay.Tie as tie
 
 abbrev Inv-loop : tie.InvT-loop
-Inv-loop out₀ at src i₀ out i = (i ≤ length src) × (length out ≡ length out₀) × (out ≡ sets out₀ at (take i src))
+Inv-loop out₀ at src i₀ out i = Laying src out₀ at i out
 
 abbrev μ-loop : tie.MeasureT-loop
 μ-loop out₀ at src i₀ out i = length src - i
 
-loop-holds : tie.Need-loop-holds Inv-loop μ-loop
-loop-holds c = (omega arith, refl, refl)
-
 loop-again : tie.Need-loop-again Inv-loop μ-loop
-loop-again c =
-    let l = c .before .before in
-    let a = l .before .args in (
-      omega arith,
-      rw (length-set, l .loop .inv .1),
-      rw (l .loop .inv .2)
-          (sets-more (a .src .now) (a .out .now) (a .at) (l .loop .i) 0 (omega arith)),
-    )
-
-same-length : tie.Need-same-length Inv-loop μ-loop
-same-length c = c .before .loop .inv .1
+loop-again c = laying-more 0 (c .before .before .loop .inv) (omega arith) refl
 
 returns : tie.Need-returns Inv-loop μ-loop
-returns c =
-    let l = c .before .loop in
-    let e : l .i ≡ length (c .before .before .args .src .now) = omega arith in
-    (refl, record { next = refl; cells = rw (e, take-length) at (l .inv .2) })
+returns c = (refl, laying-all (c .before .loop .inv) (omega arith))
 
 pub lay-spec : {M : Type 1} → statement M
 lay-spec =
     tie.close
-    (tie.spec Inv-loop μ-loop loop-holds (λ c. search needs) (λ c. search needs) (λ c. search needs)
+    (tie.spec Inv-loop μ-loop (λ c. laying-none) (λ c. search needs) (λ c. search needs) (λ c. search needs)
     (λ c. search needs) (λ c. search needs) (λ c. search needs) (λ c. search needs) loop-again (λ c. search needs)
-    same-length returns)
+    (λ c. c .before .loop .inv .long) returns)
