@@ -1,18 +1,23 @@
 -- Laws of what is prepared of what is held.
 use mathlib.Core.Path.{_≡_, refl, ap, sym, _∙_}
 use mathlib.Core.Bool.{Bool, true, false, cond}
+use Prim.Native.Nat.{ℕ}
+use mathlib.Core.List.{List}
+use borrow.Author.Tests.{eqb-true}
+use Rattle.kernel.specs.Bits.{bitAt}
 use Rattle.kernel.specs.Element.{Answer, accepted, rejected}
 use Rattle.kernel.proofs.Tests.{both}
 use Rattle.records.specs.Blank.{noRecord}
 use Rattle.records.specs.Valid.{validOf}
 use Rattle.element.specs.declared.Held.{Held}
 use Rattle.element.specs.Mux.{Applied, usable}
-use Rattle.element.specs.Reply.{verdictOf, sentBy, heldBy, heldAfter, replyWith}
+use Rattle.element.specs.Reply.{nothingHeld, answer, verdictOf, sentBy, heldBy, heldAfter, replyWith}
+use Rattle.element.proofs.Theorems.{sent-stands-alone}
 use Rattle.walk.specs.Promises.{Planned}
 use Rattle.reader.specs.declared.Prepared.{Prepared}
 use Rattle.reader.specs.declared.PreparedReply.{PreparedReply}
 use Rattle.reader.specs.Parts.{planOf}
-use Rattle.reader.specs.Prepared.{noPlan, preparedOf, OfHeld, preparedAfter, repliedBy}
+use Rattle.reader.specs.Prepared.{noPlan, preparedOf, sendsOf, neededOf, OfHeld, preparedAfter, repliedBy}
 use Rattle.reader.proofs.Plans.{plan-fits}
 
 module _ (held : Held) where
@@ -69,6 +74,14 @@ module _ (held : Held) where
       → h ≡ heldBy held (r .verdict) (r .sent) → record { verdict = r .verdict; held = h } ≡ replyWith held x
   reply-is p x e f =
       rw (f, e) (ap (λ (z : Held). record { verdict = verdictOf x; held = z }) (then-held x))
+
+  -- what an element needs of it gives the same answer
+  pub needed-same : (s : List ℕ) (room : ℕ) → answer s (neededOf s held) room ≡ answer s held room
+  needed-same s room = go (sendsOf s) refl
+    where
+      go : (t : Bool) → sendsOf s ≡ t → answer s (cond t nothingHeld held) room ≡ answer s held room
+      go true e = sent-stands-alone s nothingHeld room held (eqb-true (bitAt s 0) 0 e)
+      go false e = refl
 
 pub plan-of-held : {p : Prepared} → OfHeld p → p .usable ≡ true → Planned (p .plan)
 plan-of-held o h =

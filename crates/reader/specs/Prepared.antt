@@ -1,15 +1,17 @@
 -- What readings need of what is held, and what `read_prepared` promises.
 use mathlib.Core.Path.{_≡_}
-use mathlib.Core.Bool.{true, false, cond}
+use mathlib.Core.Bool.{Bool, true, false, cond}
 use mathlib.Core.List.{List}
 use Prim.Native.Nat.{ℕ}
+use lib.Dec.{eqb}
 use lib.ListN.{length, replicate}
+use Rattle.kernel.specs.Bits.{bitAt}
 use Rattle.kernel.specs.Element.{Answer, accepted, rejected}
 use Rattle.records.specs.Blank.{noRecord}
 use Rattle.element.specs.declared.Held.{Held}
 use Rattle.element.specs.declared.Verdict.{Verdict}
 use Rattle.element.specs.Mux.{Applied, usable}
-use Rattle.element.specs.Reply.{answer, verdictOf, sentBy, mapAfter, tableAfter}
+use Rattle.element.specs.Reply.{nothingHeld, answer, verdictOf, sentBy, mapAfter, tableAfter}
 use Rattle.walk.specs.declared.Plan.{Plan}
 use Rattle.reader.specs.declared.Prepared.{Prepared}
 use Rattle.reader.specs.declared.PreparedReply.{PreparedReply}
@@ -21,6 +23,14 @@ noPlan = record { slots = replicate 16 0; streams = 0; subframes = 0; other = fa
 unfoldable pub preparedOf : Held → Prepared
 preparedOf held = cond (usable held) (record { usable = true; plan = planOf (held .config) })
     (record { usable = false; plan = noPlan })
+
+-- useSameStreamMux is 0
+abbrev pub sendsOf : List ℕ → Bool
+sendsOf s = eqb (bitAt s 0) 0
+
+-- of what is held, an element that sends a configuration needs nothing (`SentStandsAlone` of element)
+abbrev pub neededOf : List ℕ → Held → Held
+neededOf s held = cond (sendsOf s) nothingHeld held
 
 -- it is what was prepared of something held
 pub record OfHeld (p : Prepared) : Type 0 where

@@ -10,13 +10,14 @@ ghost use Rattle.records.specs.Valid.{validOf};
 ghost use Rattle.element.specs.Mux.{audioMuxElement};
 ghost use Rattle.element.specs.Promises.{ReadPromise, ReadWithPromise};
 ghost use Rattle.reader.specs.Parts.{fixedBits, fixedOf, Fixable, planOf, sentOf};
-ghost use Rattle.reader.specs.Prepared.{noPlan, preparedOf, OfHeld, unsentReply, Leaves};
+ghost use Rattle.reader.specs.Prepared.{noPlan, preparedOf, OfHeld, unsentReply, Leaves, sendsOf, neededOf};
 ghost use Rattle.reader.specs.Prepared.{LeavesBy, PreparedPromise};
 use config_reader::stream_mux_config;
 use element::Held;
 use element::Reply;
 use element::Verdict;
 use element::held_after;
+use element::nothing_held;
 use kernel::Cursor;
 use kernel::Fetched;
 use kernel::Reached;
@@ -235,12 +236,33 @@ pub fn read_prepared(
     element_of(el, prepared, map, table)
 }
 
+// Whether an element sends a configuration; of no byte at all it does not matter.
+fn sends(el: &[u8]) -> bool
+    ensures { λ r. ⌜ r ≡ sendsOf (now (el .entry)) ⌝ }
+{
+    if el.len() == 0 {
+        return true;
+    }
+    el[0] / 128 % 2 == 0
+}
+
+// What the reading of this element needs of what is held: nothing, where it sends a configuration.
+fn prepare_for(el: &[u8], held: Held) -> Prepared
+    ensures { λ r. ⌜ r ≡ preparedOf (neededOf (now (el .entry)) held) ⌝ }
+{
+    if sends(el) {
+        let none = nothing_held();
+        return prepare(none);
+    }
+    prepare(held)
+}
+
 // The same with the configuration itself, any record at all.
 pub fn read_with(el: &[u8], held: Held, map: &mut [u32], table: &mut [[u8; 8]; 16]) -> Reply
     ensures { λ r. ⌜ ReadWithPromise (now (el .entry)) held (now (map .entry)) (now (table .entry))
         r (now (map .exit)) (now (table .exit)) ⌝ }
 {
-    let prepared = prepare(held);
+    let prepared = prepare_for(el, held);
     let reply = read_prepared(el, prepared, map, table);
     let verdict = reply.verdict;
     let sent = reply.sent;
