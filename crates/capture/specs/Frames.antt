@@ -96,6 +96,7 @@ OfEach P (m ∷ ms) = P m × OfEach P ms
 abbrev pub markOf : Point → Mark
 markOf c = record { at = c .at; number = c .number; prepared = preparedOf (c .held) }
 
+-- it is the mark of some point
 pub record OfPoint (mark : Mark) : Type 0 where
   pub point : Point
   pub is : mark ≡ markOf point

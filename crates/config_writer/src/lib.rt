@@ -148,8 +148,8 @@ fn put_head(out: &mut [u8], at: usize, r: Record) -> usize
     requires { ⌜ at + 47 ≤ 1000000 ⌝ }
     ensures { λ x. ⌜ (x ≤ at + 47) × Put (now (out .entry)) at (muxHeadBits r) (now (out .exit)) x ⌝ }
 {
-    let variant = put(out, at, 1, r.version);
-    let tara = put_if(out, variant, r.version == 1, 1, r.subversion);
+    let subversion = put(out, at, 1, r.version);
+    let tara = put_if(out, subversion, r.version == 1, 1, r.subversion);
     let framing = put_value_if(out, tara, r.version == 1, r.tara);
     let subframes = put(out, framing, 1, r.framing);
     let programs = put(out, subframes, 6, r.subframes);

@@ -56,14 +56,12 @@ Said number (rejected r its) =
     ≡ number ∷ 88 ∷ r .refusal .number ∷ r .refusal .place ∷ r .refusal .fields ∷ []
 
 -- six, two and five digits lose nothing of any item or refusal of a listing: its elements are fewer than 1,000,000, and
--- one that is
--- read has at most 8,191 bytes
+-- one that is read has at most 8,191 bytes
 abbrev pub NothingIsLost : Type 0
 NothingIsLost = (s : List ℕ) → OfEach (λ m. Said (m .number) (m .reading)) (framesOf s 4368 start)
 
 -- the text of blocks one after the other, each from where the one before was come to, is the listing: as many as a
--- capture has bytes are
--- enough, if each has room for a full map
+-- capture has bytes are enough, if each has room for a full map
 abbrev pub ListingIsWhole : Type 0
 ListingIsWhole = (s : List ℕ) (size : ℕ) → 26208 ≤ size
     → blocks framed unchanged 26208 size (framesOf s 4368) (length s) tt start ≡ listingOf s

@@ -51,7 +51,7 @@ module _ {s : List ℕ} {at k : ℕ} where
   groups-stop (suc n) v h e = off _ e
 
   module _ {m at′ k′ : ℕ} where
-    -- the continue bit m was fields: it may not stand there, its byte is cut off, it is the last, or another group
+    -- the continue bit m was read: it may not stand there, its byte is cut off, it is the last, or another group
     -- follows
     pub groups-over : (n v : ℕ) → 0 < n → Comes s (field Open 1) at k (value m at′ k′) → (eqb m 0 || leb 2 n) ≡ false
         → Comes s (groupsFrom n v) at k (refusal (refusedAt 14 at k′))

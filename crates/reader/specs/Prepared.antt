@@ -45,7 +45,7 @@ preparedAfter p (rejected r its) = p
 abbrev pub repliedBy : Prepared → Answer Applied → PreparedReply
 repliedBy p x = record { verdict = verdictOf x; sent = sentBy x; prepared = preparedAfter p x }
 
--- where nothing was sent
+-- where no configuration was sent and accepted
 abbrev pub unsentReply : Verdict → Prepared → PreparedReply
 unsentReply v p = record { verdict = v; sent = noRecord; prepared = p }
 

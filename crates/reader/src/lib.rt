@@ -132,7 +132,7 @@ pub fn prepare(held: Held) -> Prepared
     }
 }
 
-// Where nothing was sent.
+// Where no configuration was sent and accepted: what was prepared stays.
 fn unsent(v: Verdict, prepared: Prepared) -> PreparedReply
     ensures { λ r. ⌜ r ≡ unsentReply v prepared ⌝ }
 {

@@ -1,4 +1,4 @@
-// Cases of a script that fields: H, R, W and S. Each says whether the script goes on.
+// Cases of a script that read: H, R, W and S. Each says whether the script goes on.
 use element::Held;
 use element::Verdict;
 use record_words::RECORD_WORDS;

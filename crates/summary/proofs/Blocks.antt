@@ -16,7 +16,7 @@ use Rattle.reader.specs.Prepared.{preparedOf}
 use Rattle.capture.specs.declared.Mark.{Mark}
 use Rattle.capture.specs.Frames.{Point, markOf, pointAt}
 use Rattle.capture.proofs.Steps.{Took, mark-at}
-use Rattle.capture.proofs.Blocks.{Laid, full-further}
+use Rattle.capture.proofs.Blocks.{Left, Laid, full-further}
 use Rattle.summary.specs.declared.Block.{Block}
 use Rattle.summary.specs.Summary.{framed, saidThen}
 use Rattle.summary.specs.Laid.{verdictText, verdictSaid, blockOf, blockText, usable, BlockPromise}
@@ -37,6 +37,15 @@ module _ {s : List ℕ} {c : Point} {map map′ : List ℕ} {table table′ : Li
 
   pub said-then : (said : Bool) → verdictSaid said v ≡ saidThen said (t .seen)
   said-then said = rw (t .verdict) (said-is said (t .seen .reading))
+
+-- a loop that lays a block, from the point c₀ on, with the map and the bytes that it was lent
+pub record Going (s : List ℕ) (size : ℕ) (out₀ : List ℕ) (before : Bool) (c₀ : Point) (map out : List ℕ) (reached : Mark)
+    (held : Held) (said : Bool) (used : ℕ) : Type 0 where
+  pub room : length map ≡ 4368
+  pub long : length out ≡ length out₀
+  pub few : used ≤ size
+  pub prepared : reached .prepared ≡ preparedOf held
+  pub left : Left framed saidThen 14336 size s 4368 out₀ before c₀ out used said (pointAt reached held)
 
 -- what was laid is a block
 pub block-laid : {s out out′ : List ℕ} {size used : ℕ} {from : Point} {reached : Mark} {held : Held}

@@ -12,9 +12,9 @@ returns c =
     let subframes = programs .before .before .before .before in
     let framing = subframes .before .before .before .before in
     let tara = framing .before .before .before .before in
-    let variant = tara .before .before .before .before .before in
-    let version = variant .before .before .before .before .before in
-    put-most _ _ (at-most (version .put .ensures)) (put-most _ _ (variant .put-if .ensures)
+    let subversion = tara .before .before .before .before .before in
+    let version = subversion .before .before .before .before .before in
+    put-most _ _ (at-most (version .put .ensures)) (put-most _ _ (subversion .put-if .ensures)
     (put-most _ _ (tara .put-value-if .ensures)
     (at-most (put-exact _ _ (framing .put2 .ensures)
     (put-exact _ _ (subframes .put3 .ensures) (programs .put4 .ensures))))))

@@ -2,15 +2,14 @@
 use mathlib.Core.Path.{ap, sym, _≡_, _∙_}
 use native.Mathlib.Omega.{arith}
 use borrow.Author.Needs.{needs}
-use Rattle.kernel.specs.Answer.{value, toldFetched, whyFetched}
+use Rattle.kernel.specs.Answer.{value, toldFetched}
 use Rattle.kernel.specs.Reading.{field}
-use Rattle.kernel.proofs.Chain.{Comes, got, steady, took}
+use Rattle.kernel.proofs.Chain.{Comes, got, handed, steady, took}
 use Rattle.element.specs.Mux.{usable}
 use Rattle.reader.specs.Prepared.{unsentReply}
 use Rattle.reader.proofs.Preparing.{same-flag, plan-of-held}
 use Rattle.reader.proofs.Whole.{flag-refused, flag-sent, held-leaves}
 use Rattle.reader.proofs.Whole.{flag-short, flag-0, flag-1, flag-unheld}
-use Rattle.kernel.specs.declared.Fetched.the-variants.{Refused as Short}
 use Rattle.kernel.specs.declared.Refusal.{Refusal}
 use Rattle.element.specs.declared.Verdict.the-variants.{Refused}
 use Rattle.kernel.specs.declared.Window.the-variants.{Open}
@@ -26,12 +25,10 @@ returns : tie.Need-returns
 returns c held is =
     let w = c .before in
     let d = w .before in
-    let q = d .enum-told .given .1 in
     let g = d .before .before in
     let a = g .before .before .before .args in
     let k = flag-refused (a .el .now) held (a .prepared) (a .map .now) (a .table .now) _
-    (flag-short (usable held) (got toldFetched _ _ _ _ (g .fetch .ensures) (q
-    ∙ ap Short (sym (w .why .ensures ∙ ap whyFetched q))))) in
+    (flag-short (usable held) (handed (g .fetch .ensures) (d .enum-told .given .1) (w .why .ensures))) in
     (c .unsent .ensures ∙ k .0, k .1, k .2)
 
 with-sent-requires : tie.Need-with-sent-requires

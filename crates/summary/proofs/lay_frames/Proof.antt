@@ -1,24 +1,20 @@
 -- `summary::lay_frames` meets its contract.
-use mathlib.Core.Path.{_≡_}
 use Prim.Native.Nat.{_+_, _-_, _≤_, _<_}
 use native.Mathlib.Omega.{arith}
 use lib.ListN.{length}
 use borrow.Author.Tests.{le-leb, lt-leb}
-use Rattle.reader.specs.Prepared.{preparedOf}
 use Rattle.capture.specs.Frames.{pointAt}
 use Rattle.capture.proofs.Steps.{Took, mark-at, took, took-none, took-further, prepared-then, point-then}
-use Rattle.capture.proofs.Blocks.{Left, left-all, left-on, left-none, left-full}
+use Rattle.capture.proofs.Blocks.{left-all, left-on, left-none, left-full}
 use Rattle.summary.specs.Summary.{framed, saidThen}
-use Rattle.summary.proofs.Blocks.{laid-frame, said-then, block-laid}
+use Rattle.summary.proofs.Blocks.{laid-frame, said-then, Going, block-laid}
 use borrow.Author.Needs.{needs}
 use Rattle.summary.proofs.lay_frames.Statement.{statement}
 use Rattle.summary.proofs.lay_frames.Tie as tie
 
 abbrev Inv-loop : tie.InvT-loop
 Inv-loop capture before map₀ table₀ out₀ room reached₀ held₀ said₀ used₀ map table out reached held said used =
-    (length map ≡ 4368) × (length out ≡ length out₀) × (used ≤ room) × (reached .prepared ≡ preparedOf held)
-    × Left framed saidThen 14336 room capture 4368 out₀ before (pointAt reached₀ held₀) out used said
-    (pointAt reached held)
+    Going capture room out₀ before (pointAt reached₀ held₀) map out reached held said used
 
 abbrev μ-loop : tie.MeasureT-loop
 μ-loop capture before map₀ table₀ out₀ room reached₀ held₀ said₀ used₀ map table out reached held said used =
@@ -33,28 +29,34 @@ taken : (f : tie.After-found Inv-loop μ-loop) → let a = f .before .before .be
 taken f =
     let a = f .before .before .before .before in
     let l = a .before .before .before .before in
-    took _ 4368 _ (l .loop .map) (l .loop .table) (mark-at _ _ (l .loop .inv .3)) (a .advance .ensures)
-    (l .loop .inv .0) _ _ _ (f .found .given .1)
+    took _ 4368 _ (l .loop .map) (l .loop .table) (mark-at _ _ (l .loop .inv .prepared)) (a .advance .ensures)
+    (l .loop .inv .room) _ _ _ (f .found .given .1)
 
 loop-holds : tie.Need-loop-holds Inv-loop μ-loop
-loop-holds c = (search needs, search needs, search needs, search needs, left-all framed saidThen 14336 _ _ 4368)
+loop-holds c = record {
+  room = search needs;
+  long = search needs;
+  few = search needs;
+  prepared = search needs;
+  left = left-all framed saidThen 14336 _ _ 4368;
+}
 
 advance-requires : tie.Need-advance-requires Inv-loop μ-loop
 advance-requires c κs =
-    let l = c .before .before .before in record { point = _; is = mark-at _ _ (l .loop .inv .3) }
+    let l = c .before .before .before in record { point = _; is = mark-at _ _ (l .loop .inv .prepared) }
 
 returns : tie.Need-returns Inv-loop μ-loop
 returns c =
     let a = c .before .before .before .before in
     let l = a .before .before .before .before in
     let s = l .before .before .before .before .before .args .capture .now in
-    let e = took-none s 4368 _ (l .loop .map) (l .loop .table) (mark-at _ _ (l .loop .inv .3)) (a .advance .ensures)
-    (l .loop .inv .0) (c .enum-told .given .1) in
+    let e = took-none s 4368 _ (l .loop .map) (l .loop .table) (mark-at _ _ (l .loop .inv .prepared)) (a .advance .ensures)
+    (l .loop .inv .room) (c .enum-told .given .1) in
     let h : l .loop .used + 14336 ≤ l .before .block-room .result =
     omega (arith, a .before .before .before .loop-test .taken) in (
-      block-laid _ (l .loop .inv .3) (left-none framed saidThen 14336 _ s 4368 (l .loop .inv .4) e)
+      block-laid _ (l .loop .inv .prepared) (left-none framed saidThen 14336 _ s 4368 (l .loop .inv .left) e)
           (l .before .block-room .ensures) (le-leb _ _ h),
-      omega (arith, l .loop .inv .2, l .before .block-room .ensures),
+      omega (arith, l .loop .inv .few, l .before .block-room .ensures),
     )
 
 loop-less : tie.Need-loop-less Inv-loop μ-loop
@@ -62,7 +64,7 @@ loop-less c =
     let f = c .before .before .before .before .before .before .before .before .before .before in
     let l = f .before .before .before .before .before .before .before .before in
     let s = l .before .before .before .before .before .args .capture .now in
-    omega (arith, took-further s 4368 _ (mark-at _ _ (l .loop .inv .3)) (taken f))
+    omega (arith, took-further s 4368 _ (mark-at _ _ (l .loop .inv .prepared)) (taken f))
 
 loop-again : tie.Need-loop-again Inv-loop μ-loop
 loop-again c =
@@ -75,23 +77,25 @@ loop-again c =
     let n = k .before .before .before .before .lay-verdict .ensures in
     let h : l .loop .used + 14336 ≤ l .before .block-room .result =
     omega (arith, a .before .before .before .loop-test .taken) in
-    let left = left-on framed saidThen 14336 _ s 4368 (t .seen) (l .loop .inv .4) (t .is) (le-leb _ _ h)
-    (laid-frame t (l .loop .said) (n .1)) in (
-      search needs,
-      search needs,
-      omega (arith, n .0, h),
-      prepared-then t (k .held-after .ensures),
-      rw (point-then t (k .held-after .ensures), k .before .said-after .ensures, said-then t (l .loop .said)) left,
-    )
+    let left = left-on framed saidThen 14336 _ s 4368 (t .seen) (l .loop .inv .left) (t .is) (le-leb _ _ h)
+    (laid-frame t (l .loop .said) (n .1)) in
+    record {
+      room = search needs;
+      long = search needs;
+      few = omega (arith, n .0, h);
+      prepared = prepared-then t (k .held-after .ensures);
+      left =
+          rw (point-then t (k .held-after .ensures), k .before .said-after .ensures, said-then t (l .loop .said)) left;
+    }
 
 returns-2 : tie.Need-returns-2 Inv-loop μ-loop
 returns-2 c =
     let l = c .before in
     let s = l .before .before .before .before .before .args .capture .now in
     let h : l .before .block-room .result < l .loop .used + 14336 = omega (arith, c .loop-test .left) in (
-      block-laid _ (l .loop .inv .3) (left-full framed saidThen 14336 _ s 4368 (l .loop .inv .4) (lt-leb _ _ h))
+      block-laid _ (l .loop .inv .prepared) (left-full framed saidThen 14336 _ s 4368 (l .loop .inv .left) (lt-leb _ _ h))
           (l .before .block-room .ensures) (lt-leb _ _ h),
-      omega (arith, l .loop .inv .2, l .before .block-room .ensures),
+      omega (arith, l .loop .inv .few, l .before .block-room .ensures),
     )
 
 pub lay-frames-spec : {M : Type 1} → statement M

@@ -24,9 +24,9 @@ versioned c = then start _ refl (got toldFetched _ _ _ _ (c .before .before .fet
 abbrev start-b : tie.After-b → tie.Start
 start-b c = start-a (c .before .before .before .before)
 
-abbrev varied : (c : tie.After-b) → From (start-b c)
+abbrev subversioned : (c : tie.After-b) → From (start-b c)
 unfolding muxHead
-varied c =
+subversioned c =
     then (versioned (c .before .before .before .before)) _ refl
     (got toldFetched _ _ _ _ (c .before .before .subversion-if .ensures) (c .b .given .1))
 
@@ -36,7 +36,7 @@ start-d c = start-b (c .before .before .before .before)
 abbrev taraed : (c : tie.After-d) → From (start-d c)
 unfolding muxHead
 taraed c =
-    then (varied (c .before .before .before .before)) _ refl
+    then (subversioned (c .before .before .before .before)) _ refl
     (got toldFetched _ _ _ _ (c .before .before .tara-if .ensures) (c .d .given .1))
 
 abbrev start-e : tie.After-e → tie.Start
@@ -90,15 +90,15 @@ returns-2 c =
     (stops (versioned (x .before .before .before .before)) _ refl h, tt)
 
 tara-if-requires : tie.Need-tara-if-requires
-unfolding varied
-tara-if-requires c κs = varied (c .before) .stands (omega arith)
+unfolding subversioned
+tara-if-requires c κs = subversioned (c .before) .stands (omega arith)
 
 returns-3 : tie.Need-returns-3
 unfolding muxHead
 returns-3 c =
     let x = c .before in
     let h = handed (x .before .before .tara-if .ensures) (x .enum-told3 .given .1) (c .why3 .ensures) in
-    (stops (varied (x .before .before .before .before)) _ refl h, tt)
+    (stops (subversioned (x .before .before .before .before)) _ refl h, tt)
 
 fetch-requires-2 : tie.Need-fetch-requires-2
 unfolding taraed
