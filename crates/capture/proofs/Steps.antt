@@ -7,7 +7,6 @@ use lib.ListN.{length}
 use Rattle.kernel.specs.Answer.{unread}
 use Rattle.kernel.specs.Element.{Answer}
 use Rattle.kernel.specs.declared.Refusal.{Refusal}
-use Rattle.records.specs.declared.Record.{Record}
 use Rattle.sync.specs.declared.Hunted.{Hunted}
 use Rattle.sync.specs.declared.Hunted.the-variants as hunted
 use Rattle.sync.specs.Sync.{huntOf, elementAt}
@@ -15,18 +14,23 @@ use Rattle.element.specs.declared.Held.{Held}
 use Rattle.element.specs.declared.Verdict.{Verdict}
 use Rattle.element.specs.declared.Verdict.the-variants as verdict
 use Rattle.element.specs.Mux.{Applied}
-use Rattle.element.specs.Reply.{answer, verdictOf, sentBy, heldBy, mapAfter, tableAfter}
+use Rattle.element.specs.Reply.{answer, verdictOf, sentBy, mapAfter, tableAfter}
+use Rattle.element.proofs.Theorems.{held-is-told}
 use Rattle.reader.specs.declared.Prepared.{Prepared}
 use Rattle.reader.specs.declared.PreparedReply.{PreparedReply}
-use Rattle.reader.specs.Prepared.{preparedOf, repliedBy, Leaves}
-use Rattle.reader.proofs.Preparing.{then-prepared, then-held}
+use Rattle.reader.specs.Prepared.{preparedOf, repliedBy}
+use Rattle.reader.specs.Promises.{Leaves}
+use Rattle.reader.proofs.Preparing.{then-prepared}
 use Rattle.capture.specs.declared.Mark.{Mark}
+use Rattle.capture.specs.declared.Holding.{Holding}
 use Rattle.capture.specs.declared.Found.{Found}
 use Rattle.capture.specs.declared.Found.the-variants.{Frame, End}
 use Rattle.capture.specs.declared.Step.{Step}
-use Rattle.capture.specs.Frames.{Point, Seen, Next, frame, none, behind, seenAt, nextBy, nextOf, markOf, stepOf}
-use Rattle.capture.specs.Frames.{pointAt, mapBy, tableBy}
-use Rattle.capture.specs.Promises.{AdvancePromise}
+use Rattle.capture.specs.declared.HoldingStep.{HoldingStep}
+use Rattle.capture.specs.Frames.{Point, Seen, Next, frame, none, behind, seenAt, nextBy, nextOf, markOf, holdingOf}
+use Rattle.capture.specs.Frames.{pointOf, foundBy, sentIn, pointThen, heldFrom, stepOf, holdingStepOf, mapBy}
+use Rattle.capture.specs.Frames.{tableBy, Whole}
+use Rattle.capture.specs.Promises.{AdvancePromise, HoldingPromise}
 use Rattle.capture.proofs.Frames.{OfNext, next-inside}
 
 -- the step to a frame with this reply to its element
@@ -39,9 +43,6 @@ stepWith from p n r = record {
 
 pub held-at : (c : Point) {from : Mark} → from ≡ markOf c → from .prepared ≡ preparedOf (c .held)
 held-at c mark = ap (λ (m : Mark). m .prepared) mark
-
-pub mark-at : (from : Mark) (held : Held) → from .prepared ≡ preparedOf held → from ≡ markOf (pointAt from held)
-mark-at from held e i = record { at = from .at; number = from .number; prepared = e i }
 
 module _ (s : List ℕ) (room : ℕ) (c : Point) {from : Mark} (mark : from ≡ markOf c) where
   hunted-from : {h : Hunted} → huntOf s (from .at) ≡ h → huntOf s (c .at) ≡ h
@@ -74,39 +75,23 @@ module _ (s : List ℕ) (room : ℕ) (c : Point) {from : Mark} (mark : from ≡ 
         let k = rw (at, mark) at l in
         rw (next-found, mark) (ap (stepWith (markOf c) p n) (k .0) ∙ step-seen, k .1, k .2)
 
--- which frame a step took, by the promise of `advance`
-pub record Took (s : List ℕ) (room : ℕ) (c : Point) (map map′ : List ℕ) (table table′ : List (List ℕ)) (v : Verdict)
-    (sent : Record) (next : Mark) : Type 0 where
+-- which frame a step took, that keeps N of where the capture is come to
+pub record Took {N : Type 0} (of : Point → N) (s : List ℕ) (room : ℕ) (c : Point) (map map′ : List ℕ)
+    (table table′ : List (List ℕ)) (v : Verdict) (next : N) : Type 0 where
   pub seen : Seen
   pub is : nextOf s room c ≡ frame seen
   pub number : seen .number ≡ c .number
   pub before : seen .before ≡ c .held
   pub verdict : v ≡ verdictOf (seen .reading)
-  pub sent-is : sent ≡ sentBy (seen .reading)
-  pub then : next ≡ markOf (behind seen)
+  pub then : next ≡ of (behind seen)
   pub map-after : map′ ≡ mapAfter map (seen .reading)
   pub table-after : table′ ≡ tableAfter table (seen .reading)
 
 -- so it has come further
-pub took-further : (s : List ℕ) (room : ℕ) (c : Point) {map map′ : List ℕ} {table table′ : List (List ℕ)} {v : Verdict}
-    {sent : Record} {from next : Mark} → from ≡ markOf c → Took s room c map map′ table table′ v sent next
-    → (from .at < next .at) × (next .at ≤ length s)
-took-further s room c mark t =
-    let i = next-inside s room c (t .seen) (t .is) in
-    rw (mark, t .then) (omega (arith, i .0, i .1), i .2)
-
--- and what is kept of what is held leads to the point behind the frame
-module _ {s : List ℕ} {room : ℕ} {c : Point} {map map′ : List ℕ} {table table′ : List (List ℕ)} {v : Verdict}
-    {sent : Record} {next : Mark} (t : Took s room c map map′ table table′ v sent next) {held : Held}
-    (e : held ≡ heldBy (c .held) v sent) where
-  held-then : held ≡ behind (t .seen) .held
-  held-then = e ∙ rw (t .verdict, t .sent-is, t .before) (then-held (c .held) (t .seen .reading))
-
-  pub prepared-then : next .prepared ≡ preparedOf held
-  prepared-then = ap (λ (m : Mark). m .prepared) (t .then) ∙ ap preparedOf (sym held-then)
-
-  pub point-then : pointAt next held ≡ behind (t .seen)
-  point-then i = record { at = t .then i .at; number = t .then i .number; held = held-then i }
+pub took-further : {N : Type 0} {of : Point → N} (s : List ℕ) (room : ℕ) (c : Point) {map map′ : List ℕ}
+    {table table′ : List (List ℕ)} {v : Verdict} {next : N} (t : Took of s room c map map′ table table′ v next)
+    → (c .at < behind (t .seen) .at) × (behind (t .seen) .at ≤ length s)
+took-further s room c t = let i = next-inside s room c (t .seen) (t .is) in (omega (arith, i .0, i .1), i .2)
 
 verdictIn : Found → Verdict
 verdictIn (Frame p n v) = v
@@ -124,40 +109,85 @@ of-place : (s : List ℕ) (room : ℕ) (c : Point) (h : Hunted) → OfNext (From
 of-place s room c (hunted.Found p n) = (refl, refl)
 of-place s room c (hunted.Refused x) = tt
 
-module _ (s : List ℕ) (room : ℕ) (c : Point) (map : List ℕ) (table : List (List ℕ)) {r : Step} where
-  took-by : {map′ : List ℕ} {table′ : List (List ℕ)} (x : Next) → nextOf s room c ≡ x → r ≡ stepOf c x
+next-from : (s : List ℕ) (room : ℕ) (c : Point) → OfNext (From c) (nextOf s room c)
+next-from s room c = of-place s room c (huntOf s (c .at))
+
+held-behind : (c : Point) (x : Next) → OfNext (From c) x → heldFrom (c .held) (foundBy x) (sentIn x) ≡ pointThen c x .held
+held-behind c (frame m) w = rw (w .1) (held-is-told (c .held) (m .reading))
+held-behind c none w = refl
+
+-- what is held follows the mark
+pub holding-is : (s : List ℕ) (room : ℕ) (c : Point) {r : Step} {held : Held} → let x = nextOf s room c in
+    r ≡ stepOf c x → held ≡ heldFrom (c .held) (r .found) (r .sent)
+    → record { found = r .found; next = record { mark = r .next; held = held } } ≡ holdingStepOf c x
+holding-is s room c e h =
+    let x = nextOf s room c in
+    rw (h, e)
+    (ap (λ (z : Held). record { found = foundBy x; next = record { mark = markOf (pointThen c x); held = z } })
+    (held-behind c x (next-from s room c)))
+
+module _ {N : Type 0} {of : Point → N} (s : List ℕ) (room : ℕ) (c : Point) (map : List ℕ) (table : List (List ℕ))
+    {found : Found} {next : N} {map′ : List ℕ} {table′ : List (List ℕ)} where
+  took-by : (x : Next) → nextOf s room c ≡ x → found ≡ foundBy x → next ≡ of (pointThen c x)
       → map′ ≡ mapBy map x → table′ ≡ tableBy table x
-      → (p n : ℕ) (v : Verdict) → r .found ≡ Frame p n v → Took s room c map map′ table table′ v (r .sent) (r .next)
+      → (p n : ℕ) (v : Verdict) → found ≡ Frame p n v → Took of s room c map map′ table table′ v next
   unfolding verdictIn isFrame
-  took-by (frame m) q e f g p n v h =
-      let w = subst (OfNext (From c)) q (of-place s room c (huntOf s (c .at))) in
+  took-by (frame m) q e t f g p n v h =
+      let w = subst (OfNext (From c)) q (next-from s room c) in
       record {
         seen = m;
         is = q;
         number = w .0;
         before = w .1;
-        verdict = sym (ap verdictIn h) ∙ ap (λ (y : Step). verdictIn (y .found)) e;
-        sent-is = ap (λ (y : Step). y .sent) e;
-        then = ap (λ (y : Step). y .next) e;
+        verdict = sym (ap verdictIn h) ∙ ap verdictIn e;
+        then = t;
         map-after = f;
         table-after = g;
       }
-  took-by none q e f g p n v h =
-      absurd (let z : _≡_ {A = ℕ} 0 1 = sym (ap (λ (y : Step). isFrame (y .found)) e) ∙ ap isFrame h in omega arith)
+  took-by none q e t f g p n v h =
+      absurd (let z : _≡_ {A = ℕ} 0 1 = sym (ap isFrame e) ∙ ap isFrame h in omega arith)
 
-  none-by : (x : Next) → nextOf s room c ≡ x → r ≡ stepOf c x → r .found ≡ End → nextOf s room c ≡ none
-  unfolding isFrame
-  none-by (frame m) q e h =
-      absurd (let z : _≡_ {A = ℕ} 1 0 = sym (ap (λ (y : Step). isFrame (y .found)) e) ∙ ap isFrame h in omega arith)
-  none-by none q e h = q
+none-by : {found : Found} (x : Next) → found ≡ foundBy x → found ≡ End → x ≡ none
+unfolding isFrame
+none-by (frame m) e h = absurd (let z : _≡_ {A = ℕ} 1 0 = sym (ap isFrame e) ∙ ap isFrame h in omega arith)
+none-by none e h = refl
 
-  module _ {from : Mark} (mark : from ≡ markOf c) {map′ : List ℕ} {table′ : List (List ℕ)}
-      (a : AdvancePromise s from map table r map′ table′) (l : length map ≡ room) where
-    -- a frame was taken,
-    pub took : (p n : ℕ) (v : Verdict) → r .found ≡ Frame p n v
-        → Took s room c map map′ table table′ v (r .sent) (r .next)
-    took p n v h = let b = rw l at (a c mark) in took-by (nextOf s room c) refl (b .0) (b .1) (b .2) p n v h
+-- a frame was taken, or there was none: of a mark,
+module _ (s : List ℕ) (room : ℕ) (c : Point) (map : List ℕ) (table : List (List ℕ)) {r : Step} {from : Mark}
+    (mark : from ≡ markOf c) {map′ : List ℕ} {table′ : List (List ℕ)}
+    (a : AdvancePromise s from map table r map′ table′) (l : length map ≡ room) where
+  pub took : (p n : ℕ) (v : Verdict) → r .found ≡ Frame p n v → Took markOf s room c map map′ table table′ v (r .next)
+  took p n v h =
+      let b = rw l at (a c mark) in
+      took-by s room c map table (nextOf s room c) refl (ap (λ (y : Step). y .found) (b .0))
+      (ap (λ (y : Step). y .next) (b .0)) (b .1) (b .2) p n v h
 
-    -- or there was none
-    pub took-none : r .found ≡ End → nextOf s room c ≡ none
-    took-none h = let b = rw l at (a c mark) in none-by (nextOf s room c) refl (b .0) h
+  pub took-none : r .found ≡ End → nextOf s room c ≡ none
+  took-none h =
+      let b = rw l at (a c mark) in
+      none-by (nextOf s room c) (ap (λ (y : Step). y .found) (b .0)) h
+
+-- and of what is held itself
+module _ (s : List ℕ) (room : ℕ) (from : Holding) (map : List ℕ) (table : List (List ℕ)) {r : HoldingStep}
+    {map′ : List ℕ} {table′ : List (List ℕ)} (a : HoldingPromise s from map table r map′ table′)
+    (l : length map ≡ room) where
+  pub took-holding : (p n : ℕ) (v : Verdict) → r .found ≡ Frame p n v
+      → Took holdingOf s room (pointOf from) map map′ table table′ v (r .next)
+  took-holding p n v h =
+      let b = rw l at a in
+      took-by s room (pointOf from) map table (nextOf s room (pointOf from)) refl
+      (ap (λ (y : HoldingStep). y .found) (b .0)) (ap (λ (y : HoldingStep). y .next) (b .0)) (b .1) (b .2) p n v h
+
+  pub took-none-holding : r .found ≡ End → nextOf s room (pointOf from) ≡ none
+  took-none-holding h =
+      let b = rw l at a in
+      none-by (nextOf s room (pointOf from)) (ap (λ (y : HoldingStep). y .found) (b .0)) h
+
+-- what is kept of the point behind the frame leads back to it
+module _ {s : List ℕ} {room : ℕ} {c : Point} {map map′ : List ℕ} {table table′ : List (List ℕ)} {v : Verdict}
+    {next : Holding} (t : Took holdingOf s room c map map′ table table′ v next) where
+  pub whole-then : Whole next
+  whole-then = rw (t .then)
+
+  pub point-then : pointOf next ≡ behind (t .seen)
+  point-then = ap pointOf (t .then)

@@ -1,10 +1,14 @@
 -- The text of frames one after the other, and the frames whose text is laid into a block.
 use mathlib.Core.Bool.{cond}
 use mathlib.Core.List.{List, [], _∷_, _++_}
-use Prim.Native.Nat.{ℕ, zero, suc, _+_}
+use Prim.Native.Nat.{ℕ, zero, suc, _+_, min}
 use lib.Dec.{leb}
 use lib.ListN.{length}
 use Rattle.capture.specs.Frames.{Point, Seen, behindAll}
+
+-- of so many bytes lent for a block no more than 65,536 are used
+abbrev pub blockRoom : ℕ → ℕ
+blockRoom length = min 65536 length
 
 -- a text for each frame, and a state that frames change
 module _ {S : Type 0} (text : S → Seen → List ℕ) (after : S → Seen → S) where

@@ -4,17 +4,21 @@ use mathlib.Core.List.{List, [], _∷_}
 use Prim.Native.Nat.{ℕ, zero, suc, _+_, _%_}
 use lib.ListN.{length}
 use Rattle.kernel.specs.Element.{Answer}
+use Rattle.records.specs.declared.Record.{Record}
 use Rattle.records.specs.Blank.{noRecord}
 use Rattle.sync.specs.declared.Hunted.{Hunted}
-use Rattle.sync.specs.declared.Hunted.the-variants.{Found, Refused}
+use Rattle.sync.specs.declared.Hunted.the-variants as hunted
 use Rattle.sync.specs.Sync.{huntOf, elementAt}
 use Rattle.element.specs.declared.Held.{Held}
 use Rattle.element.specs.Mux.{Applied}
-use Rattle.element.specs.Reply.{nothingHeld, answer, heldAfter, verdictOf, sentBy, mapAfter, tableAfter}
+use Rattle.element.specs.Reply.{nothingHeld, answer, heldAfter, verdictOf, sentBy, heldBy, mapAfter, tableAfter}
 use Rattle.reader.specs.Prepared.{preparedOf}
 use Rattle.capture.specs.declared.Mark.{Mark}
+use Rattle.capture.specs.declared.Holding.{Holding}
+use Rattle.capture.specs.declared.Found.{Found}
 use Rattle.capture.specs.declared.Found.the-variants.{Frame, End}
 use Rattle.capture.specs.declared.Step.{Step}
+use Rattle.capture.specs.declared.HoldingStep.{HoldingStep}
 
 -- where a capture is come to: the byte from which the next frame is hunted, the number of its element, what is held
 pub record Point : Type 0 where
@@ -66,8 +70,8 @@ module _ (s : List ℕ) (room : ℕ) where
   }
 
   abbrev pub nextBy : Point → Hunted → Next
-  nextBy c (Found p n) = frame (seenAt c p n)
-  nextBy c (Refused x) = none
+  nextBy c (hunted.Found p n) = frame (seenAt c p n)
+  nextBy c (hunted.Refused x) = none
 
   -- the first frame at or behind a place
   abbrev pub nextOf : Point → Next
@@ -101,18 +105,41 @@ pub record OfPoint (mark : Mark) : Type 0 where
   pub point : Point
   pub is : mark ≡ markOf point
 
--- the point of a mark, for code that keeps what is held beside it
-abbrev pub pointAt : Mark → Held → Point
-pointAt mark held = record { at = mark .at; number = mark .number; held = held }
+-- what code keeps that shows or writes what is held
+abbrev pub holdingOf : Point → Holding
+holdingOf c = record { mark = markOf c; held = c .held }
 
--- what `advance` answers and leaves, by the next frame
+abbrev pub pointOf : Holding → Point
+pointOf h = record { at = h .mark .at; number = h .mark .number; held = h .held }
+
+-- the mark is that of what is held
+abbrev pub Whole : Holding → Type 0
+Whole h = h ≡ holdingOf (pointOf h)
+
+-- what is found of the next frame, what it sent, and where the capture is then come to
+abbrev pub foundBy : Next → Found
+foundBy (frame m) = Frame (m .place) (m .size) (verdictOf (m .reading))
+foundBy none = End
+
+abbrev pub sentIn : Next → Record
+sentIn (frame m) = sentBy (m .reading)
+sentIn none = noRecord
+
+abbrev pub pointThen : Point → Next → Point
+pointThen c (frame m) = behind m
+pointThen c none = c
+
+-- what is held behind what was found, by the verdict on it and the configuration that it sent
+abbrev pub heldFrom : Held → Found → Record → Held
+heldFrom held (Frame p n v) sent = heldBy held v sent
+heldFrom held End sent = held
+
+-- what `advance` and `advance_holding` answer and leave, by the next frame
 abbrev pub stepOf : Point → Next → Step
-stepOf c (frame m) = record {
-  found = Frame (m .place) (m .size) (verdictOf (m .reading));
-  sent = sentBy (m .reading);
-  next = markOf (behind m);
-}
-stepOf c none = record { found = End; sent = noRecord; next = markOf c }
+stepOf c x = record { found = foundBy x; sent = sentIn x; next = markOf (pointThen c x) }
+
+abbrev pub holdingStepOf : Point → Next → HoldingStep
+holdingStepOf c x = record { found = foundBy x; next = holdingOf (pointThen c x) }
 
 abbrev pub mapBy : List ℕ → Next → List ℕ
 mapBy map (frame m) = mapAfter map (m .reading)

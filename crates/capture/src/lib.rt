@@ -1,9 +1,11 @@
 // The frames of a capture one after the other, each read with what was held by then.
 ghost use mathlib.Core.Path.{_≡_};
-ghost use Prim.Native.Nat.{min};
-ghost use Rattle.capture.specs.Frames.{start, markOf, OfPoint};
-ghost use Rattle.capture.specs.Promises.{AdvancePromise};
+ghost use Rattle.capture.specs.Blocks.{blockRoom};
+ghost use Rattle.capture.specs.Frames.{start, markOf, OfPoint, holdingOf, Whole, heldFrom};
+ghost use Rattle.capture.specs.Promises.{AdvancePromise, HoldingPromise};
+use element::Held;
 use element::Verdict;
+use element::held_by;
 use element::nothing_held;
 use reader::Prepared;
 use reader::prepare;
@@ -22,6 +24,12 @@ pub struct Mark {
     pub prepared: Prepared,
 }
 
+// A mark and what is held there itself, for programs that show it or write it anew.
+pub struct Holding {
+    pub mark: Mark,
+    pub held: Held,
+}
+
 // The place of a frame, the bytes of its element and the verdict on it; or no frame is left.
 pub enum Found {
     Frame(usize, usize, Verdict),
@@ -36,6 +44,12 @@ pub struct Step {
     pub next: Mark,
 }
 
+// The next frame, and where the capture is then come to.
+pub struct HoldingStep {
+    pub found: Found,
+    pub next: Holding,
+}
+
 // Where every capture begins.
 pub fn start() -> Mark
     ensures { λ r. ⌜ r ≡ markOf start ⌝ }
@@ -46,6 +60,17 @@ pub fn start() -> Mark
         at: 0,
         number: 0,
         prepared: prepared,
+    }
+}
+
+pub fn start_holding() -> Holding
+    ensures { λ r. ⌜ r ≡ holdingOf start ⌝ }
+{
+    let mark = start();
+    let held = nothing_held();
+    Holding {
+        mark: mark,
+        held: held,
     }
 }
 
@@ -83,9 +108,46 @@ pub fn advance(capture: &[u8], from: Mark, map: &mut [u32], table: &mut [[u8; 8]
     }
 }
 
+// What is held behind what was found.
+fn held_from(held: Held, found: Found, sent: Record) -> Held
+    ensures { λ r. ⌜ r ≡ heldFrom held found sent ⌝ }
+{
+    match found {
+        Found::Frame(_, _, v) => held_by(held, v, sent),
+        Found::End => held,
+    }
+}
+
+// The same as `advance`, with what is held itself.
+pub fn advance_holding(
+    capture: &[u8],
+    from: Holding,
+    map: &mut [u32],
+    table: &mut [[u8; 8]; 16],
+) -> HoldingStep
+    requires { ⌜ Whole from ⌝ }
+    ensures { λ r. ⌜ HoldingPromise (now (capture .entry)) from (now (map .entry)) (now (table .entry)) r
+        (now (map .exit)) (now (table .exit)) ⌝ }
+{
+    let mark = from.mark;
+    let step = advance(capture, mark, map, table);
+    let found = step.found;
+    let sent = step.sent;
+    let next = step.next;
+    let before = from.held;
+    let held = held_from(before, found, sent);
+    HoldingStep {
+        found: found,
+        next: Holding {
+            mark: next,
+            held: held,
+        },
+    }
+}
+
 // Of bytes lent for a block, how many are used.
 pub fn block_room(length: usize) -> usize
-    ensures { λ r. ⌜ r ≡ min 65536 length ⌝ }
+    ensures { λ r. ⌜ r ≡ blockRoom length ⌝ }
 {
     if 65536 < length {
         return 65536;

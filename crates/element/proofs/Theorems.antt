@@ -19,6 +19,7 @@ use Rattle.kernel.proofs.Values.{value-one}
 use Rattle.kernel.proofs.Tests.{both, neither}
 use Rattle.kernel.proofs.Kept.{Told}
 use Rattle.records.specs.declared.Record.{Record}
+use Rattle.records.specs.Blank.{noRecord}
 use Rattle.records.specs.Valid.{validOf}
 use Rattle.config.proofs.Given.{ReadOk}
 use Rattle.element.specs.declared.Held.{Held}
@@ -30,7 +31,7 @@ use Rattle.element.specs.Claims.{StreamsAreFew, AlignmentIsShort, Conten
 use Rattle.element.specs.Claims.{FiguresAreSmall, SameAccepted, SameRefused, SentStandsAlone, RefusalIsNumbered}
 use Rattle.element.specs.Claims.{SentHasItsPlaces, ReadOnce, FourIsNothingHeld, NothingHeldIsFour, SentIsValid}
 use Rattle.element.specs.Claims.{HeldApplies, NextIsNot4, UsableStays, ReadWithOnce, SlotIsUnbounded}
-use Rattle.element.specs.Claims.{SlotByLengthBytes, StreamsAreAll, ItemsAreFew}
+use Rattle.element.specs.Claims.{SlotByLengthBytes, StreamsAreAll, HeldIsTold, ItemsAreFew}
 use Rattle.element.proofs.Order.{element-in-order}
 use Rattle.element.proofs.Streams.{streams-below}
 use Rattle.element.proofs.Contents.{element-by-kind}
@@ -48,6 +49,16 @@ slot-by-length-bytes s at n slot = kernel.bind-runs-as-parts muxSlotLengthBytes 
 
 pub streams-are-all : StreamsAreAll
 streams-are-all = all-streams
+
+pub held-is-told : HeldIsTold
+held-is-told held (rejected r its) = refl
+held-is-told held (accepted a its n) = go (a .sent)
+  where
+    go : (t : Bool)
+        → cond {A = Held} t (record { present = true; config = cond t (a .config) noRecord }) held
+        ≡ cond {A = Held} t (record { present = true; config = a .config }) held
+    go true = refl
+    go false = refl
 
 -- refusal 1, refusal 2, or what the fields come to
 abbrev tested : Bool → Bool → Answer Applied → Answer Applied

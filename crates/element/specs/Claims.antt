@@ -8,8 +8,8 @@ use lib.Dec.{eqb}
 use lib.ListN.{length}
 use Rattle.kernel.specs.Bits.{bitAt, valueAt}
 use Rattle.kernel.specs.Reading.{Stop, stop, Outcome, gave, refused, run, after}
-use Rattle.kernel.specs.Element.{Item, accepted, rejected, itemsOf, countOf, placeOf, Tiles, OneItem, InClosed}
-use Rattle.kernel.specs.Element.{sumWidths, sumPassed}
+use Rattle.kernel.specs.Element.{Item, Answer, accepted, rejected, itemsOf, countOf, placeOf, Tiles, OneItem}
+use Rattle.kernel.specs.Element.{InClosed, sumWidths, sumPassed}
 use Rattle.records.specs.declared.Record.{Record}
 use Rattle.records.specs.Table.{streamsIn}
 use Rattle.records.specs.Valid.{validOf}
@@ -17,7 +17,7 @@ use Rattle.element.specs.declared.Held.{Held}
 use Rattle.element.specs.Mux.{kindU, kindC, kindL, kindP, kindO, kindA, Applied, streamsOf, usable}
 use Rattle.element.specs.Mux.{muxSlotLengthBytes, slotOf}
 use Rattle.element.specs.declared.Reply.{Reply}
-use Rattle.element.specs.Reply.{answer, replyOf}
+use Rattle.element.specs.Reply.{answer, verdictOf, heldAfter, sentBy, heldBy, replyOf}
 use Rattle.element.specs.Left.{contentOf}
 use Rattle.element.specs.Promises.{ReadPromise, ReadWithPromise}
 
@@ -99,6 +99,10 @@ abbrev pub StreamsAreAll : Type 0
 StreamsAreAll =
     (r : Record) → validOf r ≡ true → length (r .streams) ≡ 16
     → length (streamsOf r) ≡ streamsIn (r .layers) (r .programs) (r .programs + 1)
+
+-- what is then held, the verdict and the configuration sent tell
+abbrev pub HeldIsTold : Type 0
+HeldIsTold = (held : Held) (x : Answer Applied) → heldBy held (verdictOf x) (sentBy x) ≡ heldAfter held x
 
 module _ (s : List ℕ) (held : Held) (room : ℕ) where
   -- an element is accepted only with room for 1,092 items, and of 1 to 8,191 bytes

@@ -35,7 +35,7 @@ pub fn nothing_held() -> Held
 }
 
 // What is held behind an element, by the verdict on it and the configuration that it sent.
-pub fn held_after(held: Held, v: Verdict, sent: Record) -> Held
+pub fn held_by(held: Held, v: Verdict, sent: Record) -> Held
     ensures { λ r. ⌜ r ≡ heldBy held v sent ⌝ }
 {
     match v {

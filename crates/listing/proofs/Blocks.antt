@@ -10,19 +10,19 @@ use lib.ListN.{length}
 use borrow.Author.Tests.{leb-false}
 use Rattle.kernel.specs.Lists.{Stored}
 use Rattle.element.specs.declared.Verdict.{Verdict}
-use Rattle.records.specs.declared.Record.{Record}
 use Rattle.capture.specs.declared.Mark.{Mark}
 use Rattle.capture.specs.Frames.{Point, markOf, OfPoint}
+use Rattle.capture.specs.Blocks.{blockRoom}
 use Rattle.capture.proofs.Steps.{Took}
 use Rattle.capture.proofs.Blocks.{Left, Laid, full-further}
 use Rattle.listing.specs.declared.Block.{Block}
 use Rattle.listing.specs.Listing.{framed, unchanged}
-use Rattle.listing.specs.Laid.{verdictLines, Within, blockOf, blockText, usable, BlockPromise}
+use Rattle.listing.specs.Laid.{verdictLines, Within, blockOf, blockText, BlockPromise}
 use Rattle.listing.proofs.Lines.{listed-is, within-room}
 
 -- the step of a block took a frame: its items have room in the map, and its records are those of its verdict
-module _ {s : List ℕ} {c : Point} {map map′ : List ℕ} {table table′ : List (List ℕ)} {v : Verdict} {sent : Record}
-    {next : Mark} (t : Took s 4368 c map map′ table table′ v sent next) where
+module _ {s : List ℕ} {c : Point} {map map′ : List ℕ} {table table′ : List (List ℕ)} {v : Verdict} {next : Mark}
+    (t : Took markOf s 4368 c map map′ table table′ v next) where
   pub within : length map ≡ 4368 → length map′ ≡ length map → Within v
   within l k = rw (t .verdict) (within-room map (t .seen .reading) l (ap length (sym (t .map-after)) ∙ k))
 
@@ -44,9 +44,9 @@ pub record Going (s : List ℕ) (size : ℕ) (out₀ : List ℕ) (from : Point) 
 -- what was laid is a block
 pub block-laid : {s out out′ : List ℕ} {size used : ℕ} {from c : Point} {reached : Mark} (t : Bool)
     → reached ≡ markOf c → Laid framed unchanged 26208 size s 4368 out tt from out′ used tt c
-    → size ≡ usable out → leb (used + 26208) size ≡ t
-    → (_≡_ {A = Block} (record { reached = reached; bytes = used; ended = t }) (blockOf s (usable out) from))
-    × Stored out 0 (blockText s (usable out) from) out′ used
+    → size ≡ blockRoom (length out) → leb (used + 26208) size ≡ t → let room = blockRoom (length out) in
+    (_≡_ {A = Block} (record { reached = reached; bytes = used; ended = t }) (blockOf s room from))
+    × Stored out 0 (blockText s room from) out′ used
 block-laid {s} {out} {out′} {size} {used} {from} {c} {reached} t mark l e h =
     let n : used ≡ length (blockText s size from) = l .stored .next ∙ zero-add _ in
     let g = sym h ∙ ap (λ (k : ℕ). leb (k + 26208) size) n in
@@ -64,7 +64,7 @@ module _ (s out : List ℕ) {out′ : List ℕ} {mark : Mark} {r : Block} (o : O
   pub block-on : length out ≡ 65536 → r .ended ≡ false → (mark .at < r .reached .at) × (r .reached .at ≤ length s)
   block-on l f =
       let c = o .point in
-      let e : usable out ≡ 65536 = omega arith in
+      let e : blockRoom (length out) ≡ 65536 = omega arith in
       let b : r ≡ blockOf s 65536 c = rw e at (p c (o .is) .0) in
       let n = leb-false (length (blockText s 65536 c) + 26208) 65536 (sym (ap (λ (x : Block). x .ended) b) ∙ f) in
       rw (ap (λ (x : Block). x .reached) b, o .is)

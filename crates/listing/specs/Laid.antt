@@ -1,7 +1,7 @@
 -- What the functions below the listing promise: the same records, from the numbers of a map, and in blocks.
 use mathlib.Core.Path.{_≡_}
 use mathlib.Core.List.{List, [], _++_}
-use Prim.Native.Nat.{ℕ, zero, suc, _+_, _≤_, min}
+use Prim.Native.Nat.{ℕ, zero, suc, _+_, _≤_}
 use lib.Dec.{leb}
 use lib.ListN.{length}
 use Rattle.kernel.specs.Lists.{Stored}
@@ -47,12 +47,8 @@ module _ (s : List ℕ) (size : ℕ) (c : Point) where
     ended = leb (length blockText + 26208) size;
   }
 
--- of a block's bytes, where no more than 65,536 are used
-abbrev pub usable : List ℕ → ℕ
-usable out = min 65536 (length out)
-
 -- `lay_block`, with its bytes before and after it, whatever point the mark is of
 abbrev pub BlockPromise : List ℕ → Mark → List ℕ → Block → List ℕ → Type 0
 BlockPromise s mark out r out′ =
-    (c : Point) → mark ≡ markOf c
-    → (r ≡ blockOf s (usable out) c) × Stored out 0 (blockText s (usable out) c) out′ (r .bytes)
+    (c : Point) → mark ≡ markOf c → let size = capture.blockRoom (length out) in
+    (r ≡ blockOf s size c) × Stored out 0 (blockText s size c) out′ (r .bytes)

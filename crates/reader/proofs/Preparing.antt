@@ -7,12 +7,11 @@ use borrow.Author.Tests.{eqb-true}
 use Rattle.kernel.specs.Bits.{bitAt}
 use Rattle.kernel.specs.Element.{Answer, accepted, rejected}
 use Rattle.kernel.proofs.Tests.{both}
-use Rattle.records.specs.Blank.{noRecord}
 use Rattle.records.specs.Valid.{validOf}
 use Rattle.element.specs.declared.Held.{Held}
 use Rattle.element.specs.Mux.{Applied, usable}
-use Rattle.element.specs.Reply.{nothingHeld, answer, verdictOf, sentBy, heldBy, heldAfter, replyWith}
-use Rattle.element.proofs.Theorems.{sent-stands-alone}
+use Rattle.element.specs.Reply.{nothingHeld, answer, verdictOf, heldBy, heldAfter, replyWith}
+use Rattle.element.proofs.Theorems.{sent-stands-alone, held-is-told}
 use Rattle.walk.specs.Promises.{Planned}
 use Rattle.reader.specs.declared.Prepared.{Prepared}
 use Rattle.reader.specs.declared.PreparedReply.{PreparedReply}
@@ -59,21 +58,10 @@ module _ (held : Held) where
       go true = refl
       go false = refl
 
-  -- and held, by the verdict and what was sent
-  pub then-held : (x : Answer Applied) → heldBy held (verdictOf x) (sentBy x) ≡ heldAfter held x
-  then-held (rejected r its) = refl
-  then-held (accepted a its n) = go (a .sent)
-    where
-      go : (t : Bool)
-          → cond {A = Held} t (record { present = true; config = cond t (a .config) noRecord }) held
-          ≡ cond {A = Held} t (record { present = true; config = a .config }) held
-      go true = refl
-      go false = refl
-
   pub reply-is : (p : Prepared) (x : Answer Applied) {r : PreparedReply} {h : Held} → r ≡ repliedBy p x
       → h ≡ heldBy held (r .verdict) (r .sent) → record { verdict = r .verdict; held = h } ≡ replyWith held x
   reply-is p x e f =
-      rw (f, e) (ap (λ (z : Held). record { verdict = verdictOf x; held = z }) (then-held x))
+      rw (f, e) (ap (λ (z : Held). record { verdict = verdictOf x; held = z }) (held-is-told held x))
 
   -- what an element needs of it gives the same answer
   pub needed-same : (s : List ℕ) (room : ℕ) → answer s (neededOf s held) room ≡ answer s held room

@@ -35,7 +35,8 @@ use Rattle.walk.specs.Promises.{FinishPromise}
 use Rattle.reader.specs.declared.Prepared.{Prepared}
 use Rattle.reader.specs.declared.PreparedReply.{PreparedReply}
 use Rattle.reader.specs.Parts.{planOf, behindOf, sentOf}
-use Rattle.reader.specs.Prepared.{preparedOf, unsentReply, Leaves}
+use Rattle.reader.specs.Prepared.{preparedOf, unsent}
+use Rattle.reader.specs.Promises.{Leaves}
 use Rattle.reader.proofs.Plans.{plan-is}
 use Rattle.reader.proofs.Preparing.{prepared-usable, held-valid, held-plan}
 
@@ -123,7 +124,7 @@ module _ (s : List ℕ) (r : Record) (at n : ℕ) where
 
 -- the answer y is refusal x, so that all that was held or lent is as it was
 abbrev Unchanged : Refusal → Prepared → List ℕ → List (List ℕ) → Answer Applied → Type 0
-Unchanged x p map table y = Leaves p y map table (unsentReply (Refused x) p) map table
+Unchanged x p map table y = Leaves p y map table (unsent (Refused x) p) map table
 
 -- a configuration stands behind the flag
 module _ (s : List ℕ) (at n : ℕ) where
@@ -163,7 +164,7 @@ module _ (s : List ℕ) (at n : ℕ) where
       go (gave r at′ n′) e = absurd (apart (sym e))
       go (refused r) e =
           let q : x ≡ r .refusal = cc in
-          (ap (λ (z : Refusal). unsentReply (Refused z) p) q, refl, refl)
+          (ap (λ (z : Refusal). unsent (Refused z) p) q, refl, refl)
 
   -- accepted, the configuration is held with its table; refused, all is as it stood
   module _ (p : Prepared) (map : List ℕ) (table : List (List ℕ)) where
@@ -172,7 +173,7 @@ module _ (s : List ℕ) (at n : ℕ) where
         Leaves p y map table
         (record { verdict = Accepted k m sent; sent = r; prepared = record { usable = true; plan = plan } })
         map′ (tableOf (r .layers) (r .programs))
-    Left r plan map′ y (Refused x) = Leaves p y map table (unsentReply (Refused x) p) map′ table
+    Left r plan map′ y (Refused x) = Leaves p y map table (unsent (Refused x) p) map′ table
 
     pub sent-leaves : (r : Record) (at′ n′ : ℕ) → at ≡ 1 → told (run s streamMuxConfig at n) ≡ value r at′ n′
         → (plan : Plan) → plan ≡ planOf r → {v : Verdict} {map′ : List ℕ} → FinishPromise true s plan at′ n′ map v map′
@@ -205,7 +206,7 @@ module _ (s : List ℕ) (held : Held) where
       go (gave u at′ n′) e = absurd (apart (sym e))
       go (refused r) e =
           let q : x ≡ r .refusal = cc in
-          (ap (λ (z : Refusal). unsentReply (Refused z) p) q, refl, refl)
+          (ap (λ (z : Refusal). unsent (Refused z) p) q, refl, refl)
 
   pub flag-sent : (at n : ℕ) → at ≡ 1 → told (run s (useSameStreamMux (usable held)) 0 0) ≡ value 0 at n
       → read s (audioMuxElement held) ≡ sentOf s at n
@@ -231,12 +232,12 @@ module _ (s : List ℕ) (held : Held) where
   pub held-leaves : (p : Prepared) → p ≡ preparedOf held → p .usable ≡ true → (map : List ℕ) (table : List (List ℕ))
       (at n : ℕ) → at ≡ 1 → told (run s (useSameStreamMux (usable held)) 0 0) ≡ value 1 at n
       → {v : Verdict} {map′ : List ℕ} → FinishPromise false s (p .plan) at n map v map′
-      → Leaves p (read s (audioMuxElement held)) map table (unsentReply v p) map′ table
+      → Leaves p (read s (audioMuxElement held)) map table (unsent v p) map′ table
   held-leaves p is u map table at n h e f =
       let b = behind-is s (held .config) at n false (held-valid held is u) (p .plan) (held-plan held is u) map f in
       rw (flag-held at n h e, b .0, b .1)
       (behind-ends s (held .config) at n
-      (λ y. Leaves p y map table (unsentReply (verdictOf y) p) (mapAfter map y) table) false
+      (λ y. Leaves p y map table (unsent (verdictOf y) p) (mapAfter map y) table) false
       (λ its k. (refl, refl, refl)) (λ z its. (refl, refl, refl)))
 
 -- what useSameStreamMux comes to
@@ -263,9 +264,9 @@ module _ {s : List ℕ} where
 
 -- before any field a refusal leaves all as it was
 pub early : (m : ℕ) {p : Prepared} {map : List ℕ} {table : List (List ℕ)} {x : Refusal} {r : PreparedReply}
-    {y : Answer Applied} → r ≡ unsentReply (Refused x) p → x ≡ unread m → y ≡ rejected (stop m 0 0 0) []
+    {y : Answer Applied} → r ≡ unsent (Refused x) p → x ≡ unread m → y ≡ rejected (stop m 0 0 0) []
     → Leaves p y map table r map table
-early m {p} e f q = rw q (e ∙ ap (λ (z : Refusal). unsentReply (Refused z) p) f, refl, refl)
+early m {p} e f q = rw q (e ∙ ap (λ (z : Refusal). unsent (Refused z) p) f, refl, refl)
 
 module _ (s : List ℕ) (held : Held) (room : ℕ) where
   pub map-small : room < 4368 → answer s held room ≡ rejected (stop 1 0 0 0) []

@@ -1,17 +1,17 @@
--- What readings need of what is held, and what `read_prepared` promises.
+-- What readings need of what is held.
 use mathlib.Core.Path.{_≡_}
 use mathlib.Core.Bool.{Bool, true, false, cond}
 use mathlib.Core.List.{List}
 use Prim.Native.Nat.{ℕ}
 use lib.Dec.{eqb}
-use lib.ListN.{length, replicate}
+use lib.ListN.{replicate}
 use Rattle.kernel.specs.Bits.{bitAt}
 use Rattle.kernel.specs.Element.{Answer, accepted, rejected}
 use Rattle.records.specs.Blank.{noRecord}
 use Rattle.element.specs.declared.Held.{Held}
 use Rattle.element.specs.declared.Verdict.{Verdict}
 use Rattle.element.specs.Mux.{Applied, usable}
-use Rattle.element.specs.Reply.{nothingHeld, answer, verdictOf, sentBy, mapAfter, tableAfter}
+use Rattle.element.specs.Reply.{nothingHeld, verdictOf, sentBy}
 use Rattle.walk.specs.declared.Plan.{Plan}
 use Rattle.reader.specs.declared.Prepared.{Prepared}
 use Rattle.reader.specs.declared.PreparedReply.{PreparedReply}
@@ -46,22 +46,5 @@ abbrev pub repliedBy : Prepared → Answer Applied → PreparedReply
 repliedBy p x = record { verdict = verdictOf x; sent = sentBy x; prepared = preparedAfter p x }
 
 -- where no configuration was sent and accepted
-abbrev pub unsentReply : Verdict → Prepared → PreparedReply
-unsentReply v p = record { verdict = v; sent = noRecord; prepared = p }
-
--- the reply, the map and the table of an answer
-abbrev pub Leaves : Prepared → Answer Applied → List ℕ → List (List ℕ) → PreparedReply → List ℕ → List (List ℕ)
-    → Type 0
-Leaves p x map table r map′ table′ =
-    (r ≡ repliedBy p x) × (map′ ≡ mapAfter map x) × (table′ ≡ tableAfter table x)
-
--- those of the answer by what is held, whatever that is that this was prepared of
-abbrev pub LeavesBy : Prepared → (Held → Answer Applied) → List ℕ → List (List ℕ) → PreparedReply → List ℕ
-    → List (List ℕ) → Type 0
-LeavesBy p x map table r map′ table′ = (held : Held) → p ≡ preparedOf held → Leaves p (x held) map table r map′ table′
-
--- `read_prepared`, with the map and the table before and after it
-abbrev pub PreparedPromise : List ℕ → Prepared → List ℕ → List (List ℕ) → PreparedReply → List ℕ → List (List ℕ)
-    → Type 0
-PreparedPromise s p map table r map′ table′ =
-    LeavesBy p (λ held. answer s held (length map)) map table r map′ table′
+abbrev pub unsent : Verdict → Prepared → PreparedReply
+unsent v p = record { verdict = v; sent = noRecord; prepared = p }

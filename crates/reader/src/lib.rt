@@ -10,13 +10,13 @@ ghost use Rattle.records.specs.Valid.{validOf};
 ghost use Rattle.element.specs.Mux.{audioMuxElement};
 ghost use Rattle.element.specs.Promises.{ReadPromise, ReadWithPromise};
 ghost use Rattle.reader.specs.Parts.{fixedBits, fixedOf, Fixable, planOf, sentOf};
-ghost use Rattle.reader.specs.Prepared.{noPlan, preparedOf, OfHeld, unsentReply, Leaves, sendsOf, neededOf};
-ghost use Rattle.reader.specs.Prepared.{LeavesBy, PreparedPromise};
+ghost use Rattle.reader.specs.Prepared.{noPlan, preparedOf, OfHeld, unsent, sendsOf, neededOf};
+ghost use Rattle.reader.specs.Promises.{Leaves, LeavesBy, PreparedPromise};
 use config_reader::stream_mux_config;
 use element::Held;
 use element::Reply;
 use element::Verdict;
-use element::held_after;
+use element::held_by;
 use element::nothing_held;
 use kernel::Cursor;
 use kernel::Fetched;
@@ -134,7 +134,7 @@ pub fn prepare(held: Held) -> Prepared
 
 // Where no configuration was sent and accepted: what was prepared stays.
 fn unsent(v: Verdict, prepared: Prepared) -> PreparedReply
-    ensures { λ r. ⌜ r ≡ unsentReply v prepared ⌝ }
+    ensures { λ r. ⌜ r ≡ unsent v prepared ⌝ }
 {
     let blank = no_record();
     PreparedReply {
@@ -266,7 +266,7 @@ pub fn read_with(el: &[u8], held: Held, map: &mut [u32], table: &mut [[u8; 8]; 1
     let reply = read_prepared(el, prepared, map, table);
     let verdict = reply.verdict;
     let sent = reply.sent;
-    let after = held_after(held, verdict, sent);
+    let after = held_by(held, verdict, sent);
     Reply {
         verdict: verdict,
         held: after,

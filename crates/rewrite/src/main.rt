@@ -3,10 +3,9 @@ ghost use mathlib.Core.Path.{_≡_};
 ghost use Prim.Native.Nat.{_+_, _≤_, _<_};
 ghost use lib.ListN.{length};
 use capture::Found;
-use capture::advance;
+use capture::advance_holding;
+use capture::start_holding;
 use element::Verdict;
-use element::held_after;
-use element::nothing_held;
 use items::Item;
 use items::copy_item;
 use items::item_at;
@@ -182,20 +181,17 @@ fn all(
     requires { ⌜ (length (now map) ≡ 4368) × (length (now lengths) ≡ 1092) × (length (now payload) ≡ 8192)
         × (length (now other) ≡ 8192) × (length (now out) ≡ 8192) × (length (now frame) ≡ 8200) ⌝ }
 {
-    let mut reached = capture::start();
-    let mut held = nothing_held();
+    let mut reached = start_holding();
     loop {
-        let step = advance(capture, reached, map, table);
+        let step = advance_holding(capture, reached, map, table);
         let found = step.found;
         let Found::Frame(p, n, v) = found else {
             return;
         };
-        let sent = step.sent;
-        let after = held_after(held, v, sent);
-        held = after;
+        let next = step.next;
+        let held = next.held;
         let el = element_at(capture, p, n);
         one(el, v, held.config, map, lengths, payload, other, out, frame);
-        let next = step.next;
         reached = next;
     }
 }

@@ -7,7 +7,7 @@ use Rattle.summary.proofs.lay_block.Reads as lay-block
 use Rattle.summary.proofs.lay_head.Reads as lay-head
 use Rattle.summary.proofs.lay_end.Reads as lay-end
 
-pub lay-block-allows-one : AllowsOneOutcome lay-block.Learnt (λ k e. now (e .1 .1 .1 .1 .0))
+pub lay-block-allows-one : AllowsOneOutcome lay-block.Learnt (λ k e. now (e .1 .1 .1 .0))
 lay-block-allows-one k a x y e f p q =
     (p .0 .0 ∙ sym (q .0 .0), stored-once _ _ _ _ _ _ (x .bytes) (y .bytes) (p .0 .1) (q .0 .1) .1)
 

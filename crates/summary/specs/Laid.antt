@@ -1,9 +1,9 @@
--- What the functions below the summary promise: the same lines, from a verdict, and the record that was sent and the
--- table that the reading left; in blocks.
+-- What the functions below the summary promise: the same lines, from a verdict, and the record and the table that are
+-- held behind it; in blocks.
 use mathlib.Core.Path.{_≡_}
 use mathlib.Core.Bool.{Bool, cond, _||_}
 use mathlib.Core.List.{List, []}
-use Prim.Native.Nat.{ℕ, _+_, min}
+use Prim.Native.Nat.{ℕ, _+_}
 use lib.Dec.{leb}
 use lib.ListN.{length}
 use Rattle.kernel.specs.Lists.{Stored}
@@ -12,7 +12,7 @@ use Rattle.element.specs.declared.Held.{Held}
 use Rattle.element.specs.declared.Verdict.{Verdict}
 use Rattle.element.specs.declared.Verdict.the-variants.{Accepted, Refused}
 use Rattle.summary_lines.specs.Lines.{programsText}
-use Rattle.capture.specs.Frames.{Point, Seen, framesOf, behindAll, markOf}
+use Rattle.capture.specs.Frames.{Point, Seen, framesOf, behindAll, holdingOf}
 use Rattle.capture.specs.Blocks as capture
 use Rattle.summary.specs.declared.Block.{Block}
 use Rattle.summary.specs.Summary.{changes, firstWanting, refusalText, framed, saidThen}
@@ -38,18 +38,14 @@ module _ (s : List ℕ) (size : ℕ) (c : Point) (said : Bool) where
 
   abbrev pub blockOf : Block
   blockOf = record {
-    reached = markOf (behindAll c blockFrames);
-    held = behindAll c blockFrames .held;
+    reached = holdingOf (behindAll c blockFrames);
     said = capture.afterAll framed saidThen said blockFrames;
     bytes = length blockText;
     ended = leb (length blockText + 14336) size;
   }
 
--- of a block's bytes no more than 65,536 are used
-abbrev pub usable : List ℕ → ℕ
-usable out = min 65536 (length out)
-
 -- `lay_block`, with its bytes before and after it
 abbrev pub BlockPromise : List ℕ → Point → Bool → List ℕ → Block → List ℕ → Type 0
 BlockPromise s c said out r out′ =
-    (r ≡ blockOf s (usable out) c said) × Stored out 0 (blockText s (usable out) c said) out′ (r .bytes)
+    let size = capture.blockRoom (length out) in
+    (r ≡ blockOf s size c said) × Stored out 0 (blockText s size c said) out′ (r .bytes)

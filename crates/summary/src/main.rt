@@ -8,18 +8,16 @@ ghost use lib.Dec.{eqb};
 ghost use lib.ListN.{length};
 ghost use Rattle.kernel.specs.Lists.{Stored};
 ghost use Rattle.records.specs.Same.{sameRecord};
-ghost use Rattle.reader.specs.Prepared.{preparedOf};
-ghost use Rattle.capture.specs.Frames.{pointAt};
+ghost use Rattle.capture.specs.Frames.{pointOf, Whole};
 ghost use Rattle.summary.specs.Summary.{firstWanting, refusalText, headText, noFrameText, overText, endText};
 ghost use Rattle.summary.specs.Laid.{acceptedBy, verdictText, verdictSaid, BlockPromise};
 use capture::Found;
-use capture::Mark;
-use capture::advance;
+use capture::Holding;
+use capture::advance_holding;
 use capture::block_room;
+use capture::start_holding;
 use element::Held;
 use element::Verdict;
-use element::held_after;
-use element::nothing_held;
 use kernel::Refusal;
 use kernel::lay;
 use records::Record;
@@ -79,7 +77,7 @@ fn first_wanting(said: bool, x: Refusal) -> bool
     !said & (x.number == 4)
 }
 
-// The lines of an element, by its verdict and what a reading left.
+// The lines of an element, by its verdict, what was held before it, and the record and the table behind it.
 fn lay_verdict(
     out: &mut [u8],
     at: usize,
@@ -112,11 +110,10 @@ fn said_after(said: bool, v: Verdict) -> bool
     }
 }
 
-// Where the summary is come to, what is held there, whether the want of a configuration was said, the bytes of text
-// laid, and whether no frame is left.
+// Where the summary is come to, whether the want of a configuration was said, the bytes of text laid, and whether no
+// frame is left.
 struct Block {
-    reached: Mark,
-    held: Held,
+    reached: Holding,
     said: bool,
     bytes: usize,
     ended: bool,
@@ -126,47 +123,41 @@ struct Block {
 // table are scratch.
 fn lay_frames(
     capture: &[u8],
-    from: Mark,
-    kept: Held,
+    from: Holding,
     before: bool,
     map: &mut [u32],
     table: &mut [[u8; 8]; 16],
     out: &mut [u8],
 ) -> Block
-    requires { ⌜ (length (now map) ≡ 4368) × (from .prepared ≡ preparedOf kept) ⌝ }
-    ensures block { λ r. ⌜ BlockPromise (now (capture .entry)) (pointAt from kept) before
+    requires { ⌜ (length (now map) ≡ 4368) × Whole from ⌝ }
+    ensures block { λ r. ⌜ BlockPromise (now (capture .entry)) (pointOf from) before
         (now (out .entry)) r (now (out .exit)) ⌝ }
     ensures few { λ r. ⌜ r .bytes ≤ length (now (out .entry)) ⌝ }
 {
     let room = block_room(out.len());
     let mut reached = from;
-    let mut held = kept;
     let mut said = before;
     let mut used: usize = 0;
     while used + 14336 <= room {
-        let step = advance(capture, reached, map, table);
+        let step = advance_holding(capture, reached, map, table);
         let found = step.found;
         let Found::Frame(_, _, v) = found else {
             return Block {
                 reached: reached,
-                held: held,
                 said: said,
                 bytes: used,
                 ended: true,
             };
         };
-        let sent = step.sent;
-        let filled = *table;
-        used = lay_verdict(out, used, reached.number, held, said, v, sent, filled);
-        said = said_after(said, v);
-        let after = held_after(held, v, sent);
-        held = after;
         let next = step.next;
+        let held = next.held;
+        let filled = *table;
+        used = lay_verdict(out, used, reached.mark.number, reached.held, said, v, held.config, filled);
+        said = said_after(said, v);
         reached = next;
     }
     Block {
         reached: reached,
-        held: held,
         said: said,
         bytes: used,
         ended: false,
@@ -174,26 +165,31 @@ fn lay_frames(
 }
 
 // The lines of as many frames as a block is sure to have room for, from a place of a capture on.
-fn lay_block(capture: &[u8], from: Mark, held: Held, said: bool, out: &mut [u8]) -> Block
-    requires { ⌜ from .prepared ≡ preparedOf held ⌝ }
-    ensures block { λ r. ⌜ BlockPromise (now (capture .entry)) (pointAt from held) said
+fn lay_block(capture: &[u8], from: Holding, said: bool, out: &mut [u8]) -> Block
+    requires { ⌜ Whole from ⌝ }
+    ensures block { λ r. ⌜ BlockPromise (now (capture .entry)) (pointOf from) said
         (now (out .entry)) r (now (out .exit)) ⌝ }
     ensures few { λ r. ⌜ r .bytes ≤ length (now (out .entry)) ⌝ }
 {
     let mut map = [0; 4368];
     let none = [255; 8];
     let mut table = [none; 16];
-    lay_frames(capture, from, held, said, &mut map, &mut table, out)
+    lay_frames(capture, from, said, &mut map, &mut table, out)
 }
 
 // The first line.
 fn lay_head(out: &mut [u8]) -> usize
     ensures { λ r. ⌜ (r ≡ 112) × Stored (now (out .entry)) 0 headText (now (out .exit)) r ⌝ }
 {
-    lay(
+    let figures = lay(
         out,
         0,
-        b"element  program  layer  stream  core type    core Hz  output Hz  SBR            PS             output channels\n",
+        b"element  program  layer  stream  core type    core Hz  output Hz",
+    );
+    lay(
+        out,
+        figures,
+        b"  SBR            PS             output channels\n",
     )
 }
 
@@ -232,18 +228,16 @@ fn lay_end(out: &mut [u8], frames: usize, over: bool) -> usize
 fn show(capture: &[u8], out: &mut [u8]) -> usize
     requires { ⌜ length (now out) ≡ 65536 ⌝ }
 {
-    let mut reached = capture::start();
-    let mut held = nothing_held();
+    let mut reached = start_holding();
     let mut said = false;
     loop {
-        let block = lay_block(capture, reached, held, said, out);
+        let block = lay_block(capture, reached, said, out);
         let bytes = block.bytes;
         io::write_all(1, &out[..bytes]);
         reached = block.reached;
-        held = block.held;
         said = block.said;
         if block.ended {
-            return reached.number;
+            return reached.mark.number;
         }
     }
 }

@@ -34,8 +34,8 @@ taken : (f : tie.After-found Inv-loop μ-loop) → let a = f .before .before .be
     let l = a .before .before .before .before in
     let s = l .before .before .before .before .before .args .capture .now in
     (c : Point) → l .loop .reached ≡ markOf c
-    → Took s 4368 c (l .loop .map) (a .advance .last .1 .1 .0) (l .loop .table) (a .advance .last .1 .1 .1 .0)
-    (f .found .given .0 .1 .1 .0) (a .advance .result .sent) (a .advance .result .next)
+    → Took markOf s 4368 c (l .loop .map) (a .advance .last .1 .1 .0) (l .loop .table) (a .advance .last .1 .1 .1 .0)
+    (f .found .given .0 .1 .1 .0) (a .advance .result .next)
 taken f c mark =
     let a = f .before .before .before .before in
     let l = a .before .before .before .before in
@@ -84,7 +84,8 @@ loop-less c =
     let l = f .before .before .before .before .before .before .before .before in
     let s = l .before .before .before .before .before .args .capture .now in
     let g = going l in
-    omega (arith, took-further s 4368 (g .point) (g .mark) (taken f (g .point) (g .mark)))
+    let t = taken f (g .point) (g .mark) in
+    rw (g .mark, t .then) (omega (arith, took-further s 4368 (g .point) t))
 
 loop-again : tie.Need-loop-again Inv-loop μ-loop
 loop-again c =

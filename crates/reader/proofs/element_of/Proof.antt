@@ -6,7 +6,7 @@ use Rattle.kernel.specs.Answer.{value, toldFetched}
 use Rattle.kernel.specs.Reading.{field}
 use Rattle.kernel.proofs.Chain.{Comes, got, handed, steady, took}
 use Rattle.element.specs.Mux.{usable}
-use Rattle.reader.specs.Prepared.{unsentReply}
+use Rattle.reader.specs.Prepared.{unsent}
 use Rattle.reader.proofs.Preparing.{same-flag, plan-of-held}
 use Rattle.reader.proofs.Whole.{flag-refused, flag-sent, held-leaves}
 use Rattle.reader.proofs.Whole.{flag-short, flag-0, flag-1, flag-unheld}
@@ -79,7 +79,7 @@ returns-4 c held is =
     let none = sym (same-flag held is) ∙ i .if2 .left in
     let k = flag-refused (a .el .now) held (a .prepared) (a .map .now) (a .table .now) _
     (flag-unheld (usable held) none (t .moved) (rw one at (flag f))) in (
-      c .unsent3 .ensures ∙ ap (λ (x : Refusal). unsentReply (Refused x) (a .prepared)) (r .refused-at .ensures) ∙ k .0,
+      c .unsent3 .ensures ∙ ap (λ (x : Refusal). unsent (Refused x) (a .prepared)) (r .refused-at .ensures) ∙ k .0,
       k .1,
       k .2,
     )

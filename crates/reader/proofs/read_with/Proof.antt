@@ -18,7 +18,7 @@ returns c =
     let same = needed-same (a .held) (a .el .now) (length (a .map .now)) in
     let l = rw same at (r .read-prepared .ensures (neededOf (a .el .now) (a .held)) (p .ensures)) in
     let x = answer (a .el .now) (a .held) (length (a .map .now)) in
-    ((reply-is (a .held) (p .result) x (l .0) (c .held-after .ensures), l .1), l .2)
+    ((reply-is (a .held) (p .result) x (l .0) (c .held-by .ensures), l .1), l .2)
 
 pub read-with-spec : {M : Type 1} → statement M
 read-with-spec =

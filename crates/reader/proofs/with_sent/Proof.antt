@@ -9,7 +9,7 @@ use Rattle.config.specs.Mux.{streamMuxConfig}
 use Rattle.element.specs.declared.Verdict.{Verdict}
 use Rattle.reader.specs.declared.Prepared.{Prepared}
 use Rattle.reader.specs.Parts.{sentOf}
-use Rattle.reader.specs.Prepared.{unsentReply}
+use Rattle.reader.specs.Prepared.{unsent}
 use Rattle.reader.proofs.Plans.{plan-fits}
 use Rattle.reader.proofs.Whole.{sent-forward, sent-valid, sent-steady, sent-refused, Left, sent-leaves}
 use Rattle.reader.proofs.with_sent.Statement.{statement}
@@ -88,7 +88,7 @@ returns-3 c =
     let t = c .before .before .before .before .before in
     let p = t .before .before .before .before .before .before .before .before .before .before .before .args .prepared in
     let l = rw q at (left t) in
-    (c .unsent2 .ensures ∙ ap (λ (v : Verdict). unsentReply v p) q ∙ l .0, l .1, l .2)
+    (c .unsent2 .ensures ∙ ap (λ (v : Verdict). unsent v p) q ∙ l .0, l .1, l .2)
 
 pub with-sent-spec : {M : Type 1} → statement M
 with-sent-spec =

@@ -3,8 +3,8 @@ use Prim.Native.Nat.{_+_, _-_, _≤_, _<_}
 use native.Mathlib.Omega.{arith}
 use lib.ListN.{length}
 use borrow.Author.Tests.{le-leb, lt-leb}
-use Rattle.capture.specs.Frames.{pointAt}
-use Rattle.capture.proofs.Steps.{Took, mark-at, took, took-none, took-further, prepared-then, point-then}
+use Rattle.capture.specs.Frames.{holdingOf, pointOf}
+use Rattle.capture.proofs.Steps.{Took, took-holding, took-none-holding, took-further, whole-then, point-then}
 use Rattle.capture.proofs.Blocks.{left-all, left-on, left-none, left-full}
 use Rattle.summary.specs.Summary.{framed, saidThen}
 use Rattle.summary.proofs.Blocks.{laid-frame, said-then, Going, block-laid}
@@ -13,23 +13,24 @@ use Rattle.summary.proofs.lay_frames.Statement.{statement}
 use Rattle.summary.proofs.lay_frames.Tie as tie
 
 abbrev Inv-loop : tie.InvT-loop
-Inv-loop capture before map₀ table₀ out₀ room reached₀ held₀ said₀ used₀ map table out reached held said used =
-    Going capture room out₀ before (pointAt reached₀ held₀) map out reached held said used
+Inv-loop capture before map₀ table₀ out₀ room reached₀ said₀ used₀ map table out reached said used =
+    Going capture room out₀ before (pointOf reached₀) map out reached said used
 
 abbrev μ-loop : tie.MeasureT-loop
-μ-loop capture before map₀ table₀ out₀ room reached₀ held₀ said₀ used₀ map table out reached held said used =
-    length capture - reached .at
+μ-loop capture before map₀ table₀ out₀ room reached₀ said₀ used₀ map table out reached said used =
+    length capture - reached .mark .at
 
 -- the frame that a turn took
 taken : (f : tie.After-found Inv-loop μ-loop) → let a = f .before .before .before .before in
     let l = a .before .before .before .before in
     let s = l .before .before .before .before .before .args .capture .now in
-    Took s 4368 (pointAt (l .loop .reached) (l .loop .held)) (l .loop .map) (a .advance .last .1 .1 .0) (l .loop .table)
-    (a .advance .last .1 .1 .1 .0) (f .found .given .0 .1 .1 .0) (a .advance .result .sent) (a .advance .result .next)
+    Took holdingOf s 4368 (pointOf (l .loop .reached)) (l .loop .map) (a .advance-holding .last .1 .1 .0)
+    (l .loop .table) (a .advance-holding .last .1 .1 .1 .0) (f .found .given .0 .1 .1 .0)
+    (a .advance-holding .result .next)
 taken f =
     let a = f .before .before .before .before in
     let l = a .before .before .before .before in
-    took _ 4368 _ (l .loop .map) (l .loop .table) (mark-at _ _ (l .loop .inv .prepared)) (a .advance .ensures)
+    took-holding _ 4368 (l .loop .reached) (l .loop .map) (l .loop .table) (a .advance-holding .ensures)
     (l .loop .inv .room) _ _ _ (f .found .given .1)
 
 loop-holds : tie.Need-loop-holds Inv-loop μ-loop
@@ -37,44 +38,40 @@ loop-holds c = record {
   room = search needs;
   long = search needs;
   few = search needs;
-  prepared = search needs;
+  whole = search needs;
   left = left-all framed saidThen 14336 _ _ 4368;
 }
-
-advance-requires : tie.Need-advance-requires Inv-loop μ-loop
-advance-requires c κs =
-    let l = c .before .before .before in record { point = _; is = mark-at _ _ (l .loop .inv .prepared) }
 
 returns : tie.Need-returns Inv-loop μ-loop
 returns c =
     let a = c .before .before .before .before in
     let l = a .before .before .before .before in
     let s = l .before .before .before .before .before .args .capture .now in
-    let e = took-none s 4368 _ (l .loop .map) (l .loop .table) (mark-at _ _ (l .loop .inv .prepared)) (a .advance .ensures)
+    let e = took-none-holding s 4368 (l .loop .reached) (l .loop .map) (l .loop .table) (a .advance-holding .ensures)
     (l .loop .inv .room) (c .enum-told .given .1) in
     let h : l .loop .used + 14336 ≤ l .before .block-room .result =
     omega (arith, a .before .before .before .loop-test .taken) in (
-      block-laid _ (l .loop .inv .prepared) (left-none framed saidThen 14336 _ s 4368 (l .loop .inv .left) e)
+      block-laid _ (l .loop .inv .whole) (left-none framed saidThen 14336 _ s 4368 (l .loop .inv .left) e)
           (l .before .block-room .ensures) (le-leb _ _ h),
       omega (arith, l .loop .inv .few, l .before .block-room .ensures),
     )
 
 loop-less : tie.Need-loop-less Inv-loop μ-loop
 loop-less c =
-    let f = c .before .before .before .before .before .before .before .before .before .before in
+    let f = c .before .before .before .before .before .before .before .before .before in
     let l = f .before .before .before .before .before .before .before .before in
     let s = l .before .before .before .before .before .args .capture .now in
-    omega (arith, took-further s 4368 _ (mark-at _ _ (l .loop .inv .prepared)) (taken f))
+    let t = taken f in
+    rw (t .then) (omega (arith, took-further s 4368 (pointOf (l .loop .reached)) t))
 
 loop-again : tie.Need-loop-again Inv-loop μ-loop
 loop-again c =
-    let f = c .before .before .before .before .before .before .before .before .before .before in
+    let f = c .before .before .before .before .before .before .before .before .before in
     let a = f .before .before .before .before in
     let l = a .before .before .before .before in
     let s = l .before .before .before .before .before .args .capture .now in
     let t = taken f in
-    let k = c .before in
-    let n = k .before .before .before .before .lay-verdict .ensures in
+    let n = c .before .before .before .lay-verdict .ensures in
     let h : l .loop .used + 14336 ≤ l .before .block-room .result =
     omega (arith, a .before .before .before .loop-test .taken) in
     let left = left-on framed saidThen 14336 _ s 4368 (t .seen) (l .loop .inv .left) (t .is) (le-leb _ _ h)
@@ -83,9 +80,8 @@ loop-again c =
       room = search needs;
       long = search needs;
       few = omega (arith, n .0, h);
-      prepared = prepared-then t (k .held-after .ensures);
-      left =
-          rw (point-then t (k .held-after .ensures), k .before .said-after .ensures, said-then t (l .loop .said)) left;
+      whole = whole-then t;
+      left = rw (point-then t, c .said-after .ensures, said-then t (l .loop .said)) left;
     }
 
 returns-2 : tie.Need-returns-2 Inv-loop μ-loop
@@ -93,7 +89,7 @@ returns-2 c =
     let l = c .before in
     let s = l .before .before .before .before .before .args .capture .now in
     let h : l .before .block-room .result < l .loop .used + 14336 = omega (arith, c .loop-test .left) in (
-      block-laid _ (l .loop .inv .prepared) (left-full framed saidThen 14336 _ s 4368 (l .loop .inv .left) (lt-leb _ _ h))
+      block-laid _ (l .loop .inv .whole) (left-full framed saidThen 14336 _ s 4368 (l .loop .inv .left) (lt-leb _ _ h))
           (l .before .block-room .ensures) (lt-leb _ _ h),
       omega (arith, l .loop .inv .few, l .before .block-room .ensures),
     )
@@ -101,7 +97,7 @@ returns-2 c =
 pub lay-frames-spec : {M : Type 1} → statement M
 lay-frames-spec =
     tie.close
-    (tie.spec Inv-loop μ-loop (λ c κs. search needs) loop-holds (λ c. search needs) advance-requires
-    (λ c. search needs) (λ c. search needs) (λ c. search needs) (λ c. search needs) returns (λ c κs. search needs)
-    (λ c κs. search needs) (λ c κs. search needs) loop-less loop-again (λ c. search needs) (λ c. search needs)
-    returns-2)
+    (tie.spec Inv-loop μ-loop (λ c κs. search needs) loop-holds (λ c. search needs)
+    (λ c κs. c .before .before .before .loop .inv .whole) (λ c. search needs) (λ c. search needs) (λ c. search needs)
+    (λ c. search needs) returns (λ c κs. search needs) (λ c κs. search needs) loop-less loop-again (λ c. search needs)
+    (λ c. search needs) returns-2)

@@ -3,22 +3,20 @@ use mathlib.Core.Path.{_≡_}
 use Prim.Native.Nat.{_-_}
 use native.Mathlib.Omega.{arith}
 use lib.ListN.{length, length-take}
-use Rattle.reader.specs.Prepared.{preparedOf}
-use Rattle.capture.specs.Frames.{pointAt}
-use Rattle.summary.proofs.Blocks.{block-held, block-on}
+use Rattle.capture.specs.Frames.{pointOf, Whole}
+use Rattle.summary.proofs.Blocks.{block-whole, block-on}
 use borrow.Author.Needs.{needs}
 use Rattle.summary.proofs.show.Statement.{statement}
 use Rattle.summary.proofs.show.Tie as tie
 
 abbrev Inv-loop : tie.InvT-loop
-Inv-loop capture out₀ reached₀ held₀ said₀ out reached held said =
-    (length out ≡ 65536) × (reached .prepared ≡ preparedOf held)
+Inv-loop capture out₀ reached₀ said₀ out reached said = (length out ≡ 65536) × Whole reached
 
 abbrev μ-loop : tie.MeasureT-loop
-μ-loop capture out₀ reached₀ held₀ said₀ out reached held said = length capture - reached .at
+μ-loop capture out₀ reached₀ said₀ out reached said = length capture - reached .mark .at
 
 loop-holds : tie.Need-loop-holds Inv-loop μ-loop
-loop-holds c = (search needs, rw (c .before .start .ensures, c .nothing-held .ensures))
+loop-holds c = (search needs, rw (c .start-holding .ensures))
 
 lay-block-requires : tie.Need-lay-block-requires Inv-loop μ-loop
 lay-block-requires c κs = c .before .loop .inv .1
@@ -31,28 +29,27 @@ returns c = search needs
 
 loop-less : tie.Need-loop-less Inv-loop μ-loop
 loop-less c =
-    let b = c .before .before .before .before .before .before .before in
+    let b = c .before .before .before .before .before .before in
     let l = b .before .before in
-    let s = l .before .before .before .before .before .args .capture .now in
+    let s = l .before .before .before .before .args .capture .now in
     omega (
       arith,
-      block-on s (l .loop .out) (pointAt (l .loop .reached) (l .loop .held)) (l .loop .said)
-          (b .lay-block .ensures .0) (l .loop .inv .0) (c .if1 .left),
+      block-on s (l .loop .out) (pointOf (l .loop .reached)) (l .loop .said) (b .lay-block .ensures .0)
+          (l .loop .inv .0) (c .if1 .left),
     )
 
 loop-again : tie.Need-loop-again Inv-loop μ-loop
 loop-again c =
-    let b = c .before .before .before .before .before .before .before in
+    let b = c .before .before .before .before .before .before in
     let l = b .before .before in
-    let s = l .before .before .before .before .before .args .capture .now in (
+    let s = l .before .before .before .before .args .capture .now in (
       search needs,
-      block-held s (l .loop .out) (pointAt (l .loop .reached) (l .loop .held)) (l .loop .said)
-          (b .lay-block .ensures .0),
+      block-whole s (l .loop .out) (pointOf (l .loop .reached)) (l .loop .said) (b .lay-block .ensures .0),
     )
 
 pub show-spec : {M : Type 1} → statement M
 show-spec =
     tie.close
-    (tie.spec Inv-loop μ-loop (λ c κs. search needs) (λ c κs. search needs) loop-holds lay-block-requires
+    (tie.spec Inv-loop μ-loop (λ c κs. search needs) loop-holds lay-block-requires
     (λ c. search needs) slice-aggregate-write-all (λ c κs. search needs) (λ c. search needs) returns loop-less
     loop-again)
