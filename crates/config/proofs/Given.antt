@@ -26,7 +26,8 @@ use Rattle.asc.proofs.Given.{Configured, asc}
 use Rattle.config.specs.declared.Head.{Head}
 use Rattle.config.specs.declared.Ending.{Ending}
 use Rattle.config.specs.declared.Places.{Places}
-use Rattle.config.specs.Mux.{windowed, configuration, frameLength, sentOrSame, layer, configAt, layers, programs}
+use Rattle.config.specs.Mux.{windowed, configuration, frameLength, sentOrSame, layer, configAt, layers, numLayer}
+use Rattle.config.specs.Mux.{programs}
 use Rattle.config.specs.Mux.{muxVersionA, muxHead, otherLength, muxEnding, noPlaces, recordOf, streamMuxConfig}
 
 -- ---- a stream
@@ -148,6 +149,11 @@ record Placed (version last : ℕ) (g : Places) : Type 0 where
   next : ℕ
   begun : Begun version last (last + 1) next g
 
+pub few-layers : (next : ℕ) → Kept Numbered (λ k. (k < 2 ^ 3) × (next + (k + 1) ≤ 16)) (numLayer next)
+unfolding numLayer
+few-layers next =
+    on _ (a-field _ _) λ k small. then (a-need _ 7 _ refl) λ _ t. gives (small, leb-true (next + (k + 1)) 16 t)
+
 all-programs : (version last n p next : ℕ) (g : Places) → version ≤ 1 → last ≤ 15 → p + n ≡ last + 1
     → Begun version last p next g
     → Kept Numbered (Placed version last) (programs version n p next g)
@@ -155,8 +161,7 @@ unfolding programs
 all-programs version last zero p next g l few e h =
     let q : p ≡ last + 1 = omega arith in gives (record { next = next; begun = rw q at h })
 all-programs version last (suc n) p next g l few e h =
-    on _ (a-field _ _) λ k small. then (a-need _ 7 _ refl) λ _ t.
-    let c : next + (k + 1) ≤ 16 = leb-true (next + (k + 1)) 16 t in
+    on _ (few-layers next) λ k (small, c).
     on _ (all-layers version (k + 1) next (g .streams) l c (h .streams)) λ ss f.
     all-programs version last n (p + 1) (next + (k + 1)) _ l few (omega arith)
     (begun-more version last p next k g ss (omega arith) few (omega arith) c h f)

@@ -27,7 +27,8 @@ use Rattle.asc.specs.Asc.{ascBits}
 use Rattle.numbers.proofs.Shortest.{value-more, value-end, groups-end}
 use Rattle.asc.proofs.ShortestAsc.{asc-end}
 use Rattle.config.specs.Mux.{windowed, configuration, configBits, frameLength, frameLengthBits, sentOrSame, layer}
-use Rattle.config.specs.Mux.{layerBits, configAt, layers, layersBits, programs, programsBits, muxVersionA}
+use Rattle.config.specs.Mux.{layerBits, configAt, layers, layersBits, numLayer, programs, programsBits}
+use Rattle.config.specs.Mux.{muxVersionA}
 use Rattle.config.specs.Mux.{muxHead, muxHeadBits, otherLength, muxEnding, muxEndingBits, noPlaces, recordOf}
 use Rattle.config.specs.Mux.{streamMuxConfig, muxBits}
 
@@ -144,6 +145,11 @@ layers-end version (suc n) next ss p l few =
 
 -- ---- the programs
 
+num-layer-end : (next p : ℕ) → Ends (λ k q. (next + (k + 1) ≤ 16) × (q ≡ p + 3)) (numLayer next) p
+unfolding numLayer
+num-layer-end next p =
+    end-field Open 3 _ λ k _ _. end-need _ 7 3 λ t. end-give (leb-true (next + (k + 1)) 16 t, refl)
+
 programs-end : (version n at next : ℕ) (g : Places) (p : ℕ) → length (g .layers) ≡ 16 → length (g .streams) ≡ 16
     → at + n ≤ 16
     → Ends (λ o q. Agree 0 at (o .layers) (g .layers) × Agree noStream next (o .streams) (g .streams)
@@ -152,9 +158,8 @@ programs-end : (version n at next : ℕ) (g : Places) (p : ℕ) → length (g .l
 unfolding programs programsBits
 programs-end version zero at next g p kl sl few = end-give (λ i h. refl, λ i h. refl, omega arith)
 programs-end version (suc n) at next g p kl sl few =
-    end-field Open 3 _ λ k _ _. end-need _ 7 3 λ t.
-    let most : next + (k + 1) ≤ 16 = leb-true (next + (k + 1)) 16 t in
-    end-on _ (layers-end version (k + 1) next (g .streams) (p + 3) sl most) λ ss q (l, a, h).
+    end-on _ (num-layer-end next p) λ k r (most, three).
+    end-on _ (layers-end version (k + 1) next (g .streams) r sl most) λ ss q (l, a, h).
     end-map (λ o r (b, c, d).
     let this : getD (o .layers) at 0 ≡ k = b at (omega arith) ∙ getD-set-same (g .layers) at k 0 (omega arith) in
     let e = layers-same version (k + 1) next ss (o .streams) c in (

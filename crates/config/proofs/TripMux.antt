@@ -29,7 +29,8 @@ use Rattle.config.specs.declared.Places.{Places}
 use Rattle.numbers.specs.Values.{latmGetValue, valueBits, groupsFrom, groupBits}
 use Rattle.asc.specs.Asc.{audioSpecificConfig, ascBits}
 use Rattle.config.specs.Mux.{windowed, configuration, configBits, frameLength, frameLengthBits, sentOrSame, layer}
-use Rattle.config.specs.Mux.{layerBits, configAt, layers, layersBits, programs, programsBits, muxVersionA}
+use Rattle.config.specs.Mux.{layerBits, configAt, layers, layersBits, numLayer, programs, programsBits}
+use Rattle.config.specs.Mux.{muxVersionA}
 use Rattle.config.specs.Mux.{muxHead, muxHeadBits, otherLength, muxEnding, muxEndingBits, noPlaces}
 use Rattle.config.specs.Mux.{streamMuxConfig, muxBits}
 use Rattle.records.proofs.Apart.{SlotOk, of-type-0, of-type-1, slot-ok, RecordOk, record-ok}
@@ -147,6 +148,11 @@ layers-trip version (suc n) next ss at l len few v =
 
 -- ---- the programs
 
+num-layer-trip : (next at k : ℕ) → k ≤ 7 → next + (k + 1) ≤ 16 → Reads Open at (numLayer next) (bitsOf 3 k) k
+unfolding numLayer
+num-layer-trip next at k small few =
+    reads-last 3 k _ (omega arith) (reads-need 7 3 (le-leb (next + (k + 1)) 16 few) reads-give)
+
 module _ (version last : ℕ) (ks : List ℕ) (ss : List Stream) (l : version ≤ 1) (kl : length ks ≡ 16) (sl : length ss
     ≡ 16) (few : last ≤ 15)
     (small : (p : ℕ) → p ≤ last → getD ks p 0 ≤ 7) (count : streamsIn ks last 16 ≤ 16)
@@ -163,11 +169,10 @@ module _ (version last : ℕ) (ks : List ℕ) (ss : List Stream) (l : version �
       let k = getD ks p 0 in
       let more : streamsIn ks last p + (k + 1) ≡ streamsIn ks last (p + 1) = streams-next ks last p (omega arith) in
       let all : streamsIn ks last (p + 1) ≤ streamsIn ks last 16 = streams-upto ks last (p + 1) 16 (omega arith) in
-      reads-on 3 k _ (omega (arith, small p (omega arith)))
-      (reads-need 7 3 (le-leb (streamsIn ks last p + (k + 1)) 16 (omega arith))
-      (reads-bind _ (layers-trip version (k + 1) (streamsIn ks last p) ss (at + 3) l sl (omega arith)
+      reads-bind _ (num-layer-trip (streamsIn ks last p) at k (small p (omega arith)) (omega arith))
+      (reads-bind _ (layers-trip version (k + 1) (streamsIn ks last p) ss _ l sl (omega arith)
       (λ i h. valid i (omega arith)))
-      (rw (more, begun-more 0 p ks (omega arith) kl) (programs-trip n (p + 1) _ (omega arith)))))
+      (rw (more, begun-more 0 p ks (omega arith) kl) (programs-trip n (p + 1) _ (omega arith))))
 
 -- ---- what stands before and behind them
 

@@ -79,12 +79,18 @@ layersBits version (suc n) next streams =
     layerBits version next (configAt streams (next - 1)) (getD streams next noStream)
     ⧺ layersBits version n (next + 1) streams
 
--- n programs from program p on, of which the first layer is stream `next`; at most 16 streams
+-- of a program whose first layer is stream `next`; at most 16 streams
+unfoldable pub numLayer : ℕ → Reading ℕ
+numLayer next = do
+  k ← field Open 3
+  need (leb (next + (k + 1)) 16) 7 3
+  give k
+
+-- n programs from program p on, of which the first layer is stream `next`
 unfoldable pub programs : ℕ → ℕ → ℕ → ℕ → Places → Reading Places
 programs version zero p next places = give places
 programs version (suc n) p next places = do
-  k ← field Open 3
-  need (leb (next + (k + 1)) 16) 7 3
+  k ← numLayer next
   streams ← layers version (k + 1) next (places .streams)
   programs version n (p + 1) (next + (k + 1)) (record { layers = set (places .layers) p k; streams = streams })
 

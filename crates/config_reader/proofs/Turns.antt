@@ -2,7 +2,7 @@
 use mathlib.Core.Path.{_≡_, refl, ap, sym, _∙_}
 use mathlib.Core.Bool.{true, false, _||_}
 use mathlib.Core.List.{List, _++_}
-use Prim.Native.Nat.{ℕ, zero, suc, _+_, _-_, _<_, _≤_}
+use Prim.Native.Nat.{ℕ, zero, suc, _+_, _-_, _^_, _<_, _≤_}
 use native.Mathlib.Nat.{add-zero}
 use native.Mathlib.Omega.{arith}
 use lib.Dec.{leb, ltb}
@@ -16,7 +16,7 @@ use Rattle.kernel.specs.Answer.{Told, value, refusal, told}
 use Rattle.kernel.proofs.Run.{bind-assoc}
 use Rattle.kernel.proofs.Tests.{either, neither}
 use Rattle.kernel.proofs.Chain.{Comes, gives, on, off, same-end, itself, goes-on, steady, gave-told}
-use Rattle.kernel.proofs.Kept as kept
+use Rattle.kernel.proofs.Kept.{run-kept}
 use Rattle.kernel.specs.Lists.{tab}
 use Rattle.kernel.proofs.Lists.{tab-none}
 use Rattle.records.specs.declared.Config.{Config}
@@ -25,29 +25,16 @@ use Rattle.records.specs.Blank.{noStream}
 use Rattle.records.specs.Table.{streamsIn, rowFrom, rowAt, tableOf}
 use Rattle.records.proofs.Tables.{streams-more, streams-end, table-more, table-end}
 use Rattle.config.specs.declared.Places.{Places}
-use Rattle.config.specs.Mux.{layer, layers, configAt, programs, noPlaces}
-use Rattle.config_reader.specs.Promises.{numLayer}
+use Rattle.config.specs.Mux.{layer, layers, configAt, numLayer, programs, noPlaces}
+use Rattle.numbers.proofs.Given.{Numbered}
+use Rattle.config.proofs.Given.{few-layers}
 
--- numLayer and what follows it
-num-layer : {A : Type 0} (next : ℕ) (f : ℕ → Reading A)
-    → (field Open 3 >>= λ k. need (leb (next + (k + 1)) 16) 7 3 >> f k) ≡ (numLayer next >>= f)
-unfolding numLayer _>>_ _>>=_
-num-layer next f =
-    sym (bind-assoc (field Open 3) (λ k. need (leb (next + (k + 1)) 16) 7 3 >> give k) f
-    ∙ λ i. field Open 3 >>= λ k. bind-assoc (need (leb (next + (k + 1)) 16) 7 3) (λ _. give k) f i)
-
-few-layers : (next : ℕ) → kept.Kept kept.Any (λ k. next + (k + 1) ≤ 16) (numLayer next)
-unfolding numLayer
-few-layers next =
-    kept.on _ (kept.a-field _ _) λ k _. kept.then (kept.a-need _ 7 _ tt) λ _ t.
-    kept.gives (leb-true (next + (k + 1)) 16 t)
-
--- which brings the streams to 16 at most
+-- numLayer brings the streams to 16 at most
 pub few-streams : {s : List ℕ} {at n : ℕ} (next : ℕ) {k at′ n′ : ℕ} → Comes s (numLayer next) at n (value k at′ n′)
     → next + (k + 1) ≤ 16
 few-streams {s} {at} {n} next e =
-    rw (gave-told (run s (numLayer next) at n) (e .is))
-    at (kept.run-kept kept.Any (λ k. next + (k + 1) ≤ 16) tt tt s at n (few-layers next))
+    (rw (gave-told (run s (numLayer next) at n) (e .is))
+    at (run-kept Numbered (λ k. (k < 2 ^ 3) × (next + (k + 1) ≤ 16)) refl refl s at n (few-layers next))) .1
 
 module _ (version last : ℕ) where
   -- what is left: `left` layers, of which the first is stream `next`, and the programs from p to `last`
@@ -69,7 +56,7 @@ module _ (version last : ℕ) where
     program left z h =
         let e : last + 1 - p ≡ suc (last - p) = omega arith in
         let f : last + 1 - (p + 1) ≡ last - p = omega arith in
-        rw (z, e, f, add-zero) (num-layer next _)
+        rw (z, e, f, add-zero)
 
     a-layer : (left : ℕ) → 0 < left
         → remaining left p next places ≡ (layer version next (configAt (places .streams) (next - 1)) >>= λ x.

@@ -1,11 +1,9 @@
 -- The promises of the readers of StreamMuxConfig that give an array, which no enum can hold: what was reached, and
--- beside it what was read. And the part of `programs` that has a function of its own.
+-- beside it what was read.
 use mathlib.Core.Path.{_≡_}
 use mathlib.Core.List.{List}
 use Prim.Native.Nat.{ℕ, _+_}
-use lib.Dec.{leb}
-use Rattle.kernel.specs.declared.Window.the-variants.{Open}
-use Rattle.kernel.specs.Reading.{Reading, give, field, need, _>>=_, _>>_}
+use Rattle.kernel.specs.Reading.{Reading}
 use Rattle.kernel.specs.declared.Reached.{Reached}
 use Rattle.kernel.specs.Answer.{toldWith}
 use Rattle.kernel.specs.Promises.{Tells}
@@ -18,13 +16,6 @@ use Rattle.config_reader.specs.Answer.{IfRefused, tableAfter, placesOf}
 -- they tell what the reading m comes to; beside a refusal stands `blank`
 abbrev pub TellsBeside : {A : Type 0} → A → List ℕ → Reading A → ℕ → ℕ → Reached → A → Type 0
 TellsBeside blank s m at n r a = Tells (toldWith a) s m at n r × IfRefused r (a ≡ blank)
-
--- `num_layer`: numLayer of a program whose first layer is stream `next`; at most 16 streams
-unfoldable pub numLayer : ℕ → Reading ℕ
-numLayer next = do
-  k ← field Open 3
-  need (leb (next + (k + 1)) 16) 7 3
-  give k
 
 -- `programs_of`, with the table before and after it
 abbrev pub ProgramsPromise : ℕ → ℕ → List ℕ → ℕ → ℕ → List (List ℕ) → Placed → List (List ℕ) → Type 0

@@ -9,8 +9,8 @@ use Rattle.numbers.specs.Values.{bytesFrom, latmGetValue}
 use Rattle.asc.specs.Asc.{objectType, anyType, frequency, channelConfiguration, unset, psExtension, psTail}
 use Rattle.asc.specs.Asc.{sbrExtension, extensionType, syncExtension, tail, gaSpecificConfig, alone}
 use Rattle.asc.specs.Asc.{audioSpecificConfig}
-use Rattle.config.specs.Mux.{windowed, configuration, frameLength, layer, layers, programs, muxHead, muxEnding}
-use Rattle.config.specs.Mux.{streamMuxConfig}
+use Rattle.config.specs.Mux.{windowed, configuration, frameLength, layer, layers, numLayer, programs, muxHead}
+use Rattle.config.specs.Mux.{muxEnding, streamMuxConfig}
 use Rattle.element.specs.Mux.{slotFrom, muxSlotLengthBytes, slotOf, payloadLengthInfo, payloadMux, subframe, subframes}
 use Rattle.element.specs.Mux.{otherData, byteAlignment, applied, useSameStreamMux, afterFlag, audioMuxElement, rest}
 use Rattle.element.specs.Reply.{answer}
@@ -25,8 +25,8 @@ use Rattle.listing.proofs.Digits.{all-said}
 pub worked-listing : WorkedListing
 unfolding textOf framesFrom itemLines firstOf answer audioMuxElement afterFlag useSameStreamMux applied rest
     byteAlignment otherData subframes subframe payloadMux
-    payloadLengthInfo slotOf muxSlotLengthBytes slotFrom streamMuxConfig muxEnding muxHead programs layers layer
-    frameLength configuration windowed
+    payloadLengthInfo slotOf muxSlotLengthBytes slotFrom streamMuxConfig muxEnding muxHead programs numLayer layers
+    layer frameLength configuration windowed
     audioSpecificConfig alone gaSpecificConfig tail syncExtension extensionType sbrExtension psTail psExtension unset
     channelConfiguration
     frequency anyType objectType latmGetValue bytesFrom allOf tableOf streamsIn tab follow walk next overFit withItem

@@ -9,8 +9,8 @@ use Rattle.numbers.specs.Values.{bytesFrom, latmGetValue, groupsFrom}
 use Rattle.asc.specs.Asc.{objectType, anyType, hertz, frequency, channelConfiguration, unset, psExtension, psTail}
 use Rattle.asc.specs.Asc.{sbrExtension, extensionType, syncExtension, tail, gaSpecificConfig, alone, underFront}
 use Rattle.asc.specs.Asc.{audioSpecificConfig}
-use Rattle.config.specs.Mux.{windowed, configuration, frameLength, sentOrSame, layer, layers, programs, muxVersionA}
-use Rattle.config.specs.Mux.{muxHead, otherLength, muxEnding, streamMuxConfig}
+use Rattle.config.specs.Mux.{windowed, configuration, frameLength, sentOrSame, layer, layers, numLayer, programs}
+use Rattle.config.specs.Mux.{muxVersionA, muxHead, otherLength, muxEnding, streamMuxConfig}
 use Rattle.element.specs.Mux.{slotFrom, slotOf, payloadLengthInfo, payloadMux, subframe, subframes, otherData}
 use Rattle.element.specs.Mux.{byteAlignment, applied, useSameStreamMux, afterFlag, audioMuxElement, rest}
 use Rattle.element.specs.Mux.{muxSlotLengthBytes}
@@ -22,8 +22,8 @@ use Rattle.worked.proofs.Worked.{_&_}
 pub edges-come-out : Edges
 unfolding AllComeOut edges answer numbers audioMuxElement afterFlag useSameStreamMux applied rest byteAlignment
     otherData subframes subframe payloadMux
-    payloadLengthInfo slotOf muxSlotLengthBytes slotFrom streamMuxConfig muxEnding muxHead muxVersionA programs layers
-    layer sentOrSame frameLength configuration windowed
+    payloadLengthInfo slotOf muxSlotLengthBytes slotFrom streamMuxConfig muxEnding muxHead muxVersionA programs numLayer
+    layers layer sentOrSame frameLength configuration windowed
     audioSpecificConfig alone underFront gaSpecificConfig tail syncExtension extensionType sbrExtension psTail
     psExtension unset channelConfiguration
     frequency hertz anyType objectType latmGetValue bytesFrom groupsFrom otherLength allOf tableOf streamsIn tab

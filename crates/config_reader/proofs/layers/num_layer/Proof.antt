@@ -4,7 +4,7 @@ use borrow.Author.Needs.{needs}
 use borrow.Author.Tests.{le-leb, lt-leb}
 use Rattle.kernel.specs.Answer.{refusal, toldFetched}
 use Rattle.kernel.proofs.Chain.{got, so, gives, holds, fails, on, off, took}
-use Rattle.config_reader.specs.Promises.{numLayer}
+use Rattle.config.specs.Mux.{numLayer}
 use Rattle.config_reader.proofs.layers.num_layer.Statement.{statement}
 use Rattle.config_reader.proofs.layers.num_layer.Tie as tie
 

@@ -10,7 +10,7 @@ use Rattle.kernel.proofs.Chain.{Comes, got, handed}
 use Rattle.kernel.specs.declared.Fetched.the-variants.{Value}
 use Rattle.config.specs.Mux.{programs, noPlaces}
 use Rattle.layer_reader.specs.Answer.{toldStreamed}
-use Rattle.config_reader.specs.Promises.{numLayer}
+use Rattle.config.specs.Mux.{numLayer}
 use Rattle.config_reader.proofs.Beside.{refusing}
 use Rattle.config_reader.proofs.Turns.{few-streams, a-program-left, none-left, Going, going-start, program-stop}
 use Rattle.config_reader.proofs.Turns.{program-turn, layer-stop, layer-turn, all-read, all-rows, all-few}
