@@ -34,12 +34,21 @@ module _ {s : List ℕ} {c : Point} {map map′ : List ℕ} {table table′ : Li
         → Stored out at (framed tt (t .seen)) out′ to
     laid-frame {out} {out′} {at} {to} p = subst (λ (b : List ℕ). Stored out at b out′ to) records p
 
--- a loop that began at a point has come to another, with this left of its block
-pub record Going (s : List ℕ) (size : ℕ) (out₀ : List ℕ) (from : Point) (out : List ℕ) (used : ℕ)
+-- a loop that lays a block, with the map and the bytes that it was lent: begun at a point, it has come to another, with
+-- this left of its block,
+pub record Reached (s : List ℕ) (size : ℕ) (out₀ : List ℕ) (from : Point) (out : List ℕ) (used : ℕ)
     (reached : Mark) : Type 0 where
   pub point : Point
   pub mark : reached ≡ markOf point
   pub left : Left framed unchanged 26208 size s 4368 out₀ tt from out used tt point
+
+-- whatever point it was that its mark was of
+pub record Going (s : List ℕ) (size : ℕ) (out₀ : List ℕ) (from : Mark) (map out : List ℕ) (used : ℕ)
+    (reached : Mark) : Type 0 where
+  pub room : length map ≡ 4368
+  pub long : length out ≡ length out₀
+  pub few : used ≤ size
+  pub begun : (c : Point) → from ≡ markOf c → Reached s size out₀ c out used reached
 
 -- what was laid is a block
 pub block-laid : {s out out′ : List ℕ} {size used : ℕ} {from c : Point} {reached : Mark} (t : Bool)

@@ -2,18 +2,26 @@
 use mathlib.Core.Path.{_≡_, refl}
 use mathlib.Core.Bool.{Bool, true, false, _||_}
 use mathlib.Core.List.{List, _++_}
-use Prim.Native.Nat.{ℕ, zero, suc, _+_, _*_, _-_, _/_, _^_, _<_}
+use Prim.Native.Nat.{ℕ, zero, suc, _+_, _*_, _-_, _/_, _^_, _≤_, _<_}
 use native.Mathlib.Omega.{arith}
 use lib.Dec.{leb, eqb}
 use lib.Pow.{pow-add}
 use borrow.Author.Tests.{eq-eqb, ne-eqb, le-leb, lt-leb, leb-true, leb-false}
 use Rattle.kernel.specs.declared.Window.the-variants.{Open}
+use Rattle.kernel.specs.declared.Cursor.{Cursor}
 use Rattle.kernel.specs.declared.Refusal.{Refusal}
 use Rattle.kernel.specs.Bits.{bitsOf}
-use Rattle.kernel.specs.Reading.{field, refusedAt}
+use Rattle.kernel.specs.Reading.{Reading, field, refusedAt, Stands}
 use Rattle.kernel.specs.Answer.{Told, value, refusal}
 use Rattle.kernel.proofs.Chain.{Comes, gives, on, off, holds, fails, yes-way, no-way, itself, goes-on, took}
 use Rattle.numbers.specs.Values.{bytesFrom, groupsFrom, groupsAfter}
+
+-- a loop that adds a byte to v each turn, with `left` of n turns left: what is left comes to what the whole does
+pub record Adding (n left v : ℕ) (s : List ℕ) (c : Cursor) (m : Reading ℕ) (whole : Told ℕ) : Type 0 where
+  pub few : left ≤ n
+  pub stands : Stands s (c .at) (c .fields)
+  pub small : v < 2 ^ (8 * (n - left))
+  pub comes : Comes s m (c .at) (c .fields) whole
 
 two-leb : (n : ℕ) → leb 2 (suc n) ≡ leb 1 n
 two-leb n = go (leb 1 n) refl

@@ -1,27 +1,32 @@
 -- `reader::slots_of` meets its contract.
 use mathlib.Core.Path.{refl, _≡_, _∙_}
-use mathlib.Core.List.{_++_, map}
-use Prim.Native.Nat.{_-_, _≤_}
+use mathlib.Core.List.{List, _++_, map}
+use Prim.Native.Nat.{ℕ, _-_, _≤_}
 use native.Mathlib.Omega.{arith}
 use lib.ListN.{length, drop, take, replicate, length-set}
 use borrow.Author.Needs.{needs}
+use Rattle.records.specs.declared.Stream.{Stream}
 use Rattle.walk.proofs.Turns.{zeros-more}
 use Rattle.reader.specs.Parts.{fixedOf}
 use Rattle.reader.proofs.Plans.{fixed-turn, fixed-all}
 use Rattle.reader.proofs.slots_of.Statement.{statement}
 use Rattle.reader.proofs.slots_of.Tie as tie
 
+-- the slots of i of n streams are there, and zeros behind them
+record Filling (n : ℕ) (streams : List Stream) (slots : List ℕ) (i : ℕ) : Type 0 where
+  few : i ≤ n
+  room : length slots ≡ 16
+  filled : take i slots ++ map fixedOf (drop i (take n streams)) ≡ map fixedOf (take n streams)
+  blank : drop i slots ≡ replicate (16 - i) 0
+
 abbrev Inv-loop : tie.InvT-loop
-Inv-loop n streams slots₀ i₀ slots i =
-    (i ≤ n) × (length slots ≡ 16)
-    × (take i slots ++ map fixedOf (drop i (take n streams)) ≡ map fixedOf (take n streams))
-    × (drop i slots ≡ replicate (16 - i) 0)
+Inv-loop n streams slots₀ i₀ slots i = Filling n streams slots i
 
 abbrev μ-loop : tie.MeasureT-loop
 μ-loop n streams slots₀ i₀ slots i = n - i
 
 loop-holds : tie.Need-loop-holds Inv-loop μ-loop
-loop-holds c = (omega arith, refl, refl, refl)
+loop-holds c = record { few = omega arith; room = refl; filled = refl; blank = refl }
 
 mul-s : tie.Need-mul-s Inv-loop μ-loop
 mul-s c = omega arith
@@ -46,19 +51,20 @@ loop-again c =
     let l = c .before .before .before in
     let a = l .before .args in
     let i = l .loop .i in
-    let w = c .fixed-bits .result in (
-      omega arith,
-      length-set (l .loop .slots) i w ∙ l .loop .inv .1,
-      fixed-turn (a .t1) (l .loop .slots) (a .n) i w (omega arith) (omega arith) (omega arith)
-          (c .fixed-bits .ensures) (l .loop .inv .2),
-      zeros-more (l .loop .slots) i w (l .loop .inv .3),
-    )
+    let w = c .fixed-bits .result in
+    record {
+      few = omega arith;
+      room = length-set (l .loop .slots) i w ∙ l .loop .inv .room;
+      filled = fixed-turn (a .t1) (l .loop .slots) (a .n) i w (omega arith) (omega arith) (omega arith)
+          (c .fixed-bits .ensures) (l .loop .inv .filled);
+      blank = zeros-more (l .loop .slots) i w (l .loop .inv .blank);
+    }
 
 returns : tie.Need-returns Inv-loop μ-loop
 returns c =
     let l = c .before in
-    fixed-all (l .before .args .t1) (l .loop .slots) (l .before .args .n) (l .loop .i) (omega arith) (l .loop .inv .2)
-    (l .loop .inv .3)
+    fixed-all (l .before .args .t1) (l .loop .slots) (l .before .args .n) (l .loop .i) (omega arith)
+    (l .loop .inv .filled) (l .loop .inv .blank)
 
 pub slots-of-spec : {M : Type 1} → statement M
 slots-of-spec =

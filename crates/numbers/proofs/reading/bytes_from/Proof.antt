@@ -1,24 +1,23 @@
 -- `numbers::reading::bytes_from` meets its contract.
-use mathlib.Core.Path.{refl, ap, _≡_, _∙_}
-use Prim.Native.Nat.{_+_, _-_, _*_, _^_, _≤_, _<_}
+use mathlib.Core.Path.{ap, _≡_, _∙_}
+use Prim.Native.Nat.{_+_, _-_, _*_, _^_, _<_}
 use native.Mathlib.Omega.{arith}
 use lib.Pow.{pow-pos, pow-mono}
 use denote.Ref.{now}
 use borrow.Author.Needs.{needs}
 use Rattle.kernel.specs.Answer.{told, toldFetched}
-use Rattle.kernel.specs.Reading.{run, field, Stands}
-use Rattle.kernel.proofs.Chain.{Comes, got, same-end, steady, took}
+use Rattle.kernel.specs.Reading.{run, field}
+use Rattle.kernel.proofs.Chain.{Comes, got, itself, same-end, steady, took}
 use Rattle.numbers.specs.Values.{bytesFrom}
 use Rattle.kernel.specs.declared.Window.the-variants.{Open}
 use Rattle.kernel.specs.declared.Fetched.the-variants.{Value}
-use Rattle.numbers.proofs.Turns.{bytes-done, bytes-turn, bytes-stop, byte-more}
+use Rattle.numbers.proofs.Turns.{Adding, bytes-done, bytes-turn, bytes-stop, byte-more}
 use Rattle.numbers.proofs.reading.bytes_from.Statement.{statement}
 use Rattle.numbers.proofs.reading.bytes_from.Tie as tie
 
 abbrev Inv-loop : tie.InvT-loop
 Inv-loop el n cur₀ v₀ left₀ cur v left =
-    (left ≤ n) × Stands el (cur .at) (cur .fields) × (v < 2 ^ (8 * (n - left)))
-    × Comes el (bytesFrom left v) (cur .at) (cur .fields) (told (run el (bytesFrom n 0) (cur₀ .at) (cur₀ .fields)))
+    Adding n left v el cur (bytesFrom left v) (told (run el (bytesFrom n 0) (cur₀ .at) (cur₀ .fields)))
 
 abbrev μ-loop : tie.MeasureT-loop
 μ-loop el n cur₀ v₀ left₀ cur v left = left
@@ -36,7 +35,7 @@ next c =
     let k : 8 * (l .before .before .args .n - (l .loop .left - 1))
     ≡ 8 * (l .before .before .args .n - l .loop .left) + 8 = omega arith in
     rw k (byte-more (l .loop .v) (c .before .a .given .0 .0) (8 * (l .before .before .args .n - l .loop .left))
-    (l .loop .inv .2) (took _ 8 (ran c) .narrow))
+    (l .loop .inv .small) (took _ 8 (ran c) .narrow))
 
 room : (c : tie.After-known-told Inv-loop μ-loop) → let l = c .before .before .before .before .before in
     256 * l .loop .v + c .before .a .given .0 .0 < 4294967296
@@ -45,7 +44,7 @@ room c =
     omega (arith, next c, pow-mono {i = 8 * (l .before .before .args .n - (l .loop .left - 1))} {j = 32} (omega arith))
 
 loop-holds : tie.Need-loop-holds Inv-loop μ-loop
-loop-holds c = (omega arith, omega arith, pow-pos _, record { is = refl })
+loop-holds c = record { few = omega arith; stands = omega arith; small = pow-pos _; comes = itself }
 
 fetch-requires : tie.Need-fetch-requires Inv-loop μ-loop
 fetch-requires c κs = omega arith
@@ -55,7 +54,7 @@ returns c =
     let l = c .before .before .before .before in
     let q = c .enum-told .given .1 in
     ap toldFetched q ∙ same-end (bytes-stop (l .loop .left) (l .loop .v) (omega arith)
-    (got toldFetched _ _ _ _ (c .before .before .fetch .ensures) q)) (l .loop .inv .3)
+    (got toldFetched _ _ _ _ (c .before .before .fetch .ensures) q)) (l .loop .inv .comes)
 
 mul-v : tie.Need-mul-v Inv-loop μ-loop
 mul-v c = omega (arith, room c)
@@ -71,18 +70,18 @@ loop-less c = omega arith
 
 loop-again : tie.Need-loop-again Inv-loop μ-loop
 loop-again c =
-    let l = c .before .before .before .before .before in (
-      omega arith,
-      steady (ran c) (l .loop .inv .1),
-      next c,
-      bytes-turn (l .loop .left) (l .loop .v) (omega arith)
-          (ran c) (l .loop .inv .3),
-    )
+    let l = c .before .before .before .before .before in
+    record {
+      few = omega arith;
+      stands = steady (ran c) (l .loop .inv .stands);
+      small = next c;
+      comes = bytes-turn (l .loop .left) (l .loop .v) (omega arith) (ran c) (l .loop .inv .comes);
+    }
 
 returns-2 : tie.Need-returns-2 Inv-loop μ-loop
 returns-2 c =
     let l = c .before in
-    same-end (bytes-done (l .loop .left) (l .loop .v) (omega arith)) (l .loop .inv .3)
+    same-end (bytes-done (l .loop .left) (l .loop .v) (omega arith)) (l .loop .inv .comes)
 
 pub bytes-from-spec : {M : Type 1} → statement M
 bytes-from-spec =

@@ -1,26 +1,25 @@
 -- `numbers::reading::groups_of` meets its contract.
 use mathlib.Core.Path.{_≡_, ap, _∙_}
-use Prim.Native.Nat.{_+_, _-_, _*_, _^_, _≤_, _<_}
+use Prim.Native.Nat.{_+_, _-_, _*_, _^_, _<_}
 use native.Mathlib.Omega.{arith}
 use lib.Pow.{pow-mono}
 use denote.Ref.{now}
 use borrow.Author.Needs.{needs}
 use borrow.Author.Tests.{not-true, not-false}
 use Rattle.kernel.specs.Answer.{refusal, told, toldFetched}
-use Rattle.kernel.specs.Reading.{run, field, Stands}
+use Rattle.kernel.specs.Reading.{run, field}
 use Rattle.kernel.proofs.Chain.{Comes, got, itself, same-end, steady, took}
 use Rattle.numbers.specs.Values.{groupsFrom}
 use Rattle.kernel.specs.declared.Window.the-variants.{Open}
 use Rattle.kernel.specs.declared.Fetched.the-variants.{Value}
 use Rattle.numbers.proofs.Turns.{groups-done, groups-stop, groups-over, groups-cut, groups-last, groups-turn}
-use Rattle.numbers.proofs.Turns.{byte-more}
+use Rattle.numbers.proofs.Turns.{Adding, byte-more}
 use Rattle.numbers.proofs.reading.groups_of.Statement.{statement}
 use Rattle.numbers.proofs.reading.groups_of.Tie as tie
 
 abbrev Inv-loop : tie.InvT-loop
 Inv-loop el cur₀ v₀ left₀ cur v left =
-    (left ≤ 4) × Stands el (cur .at) (cur .fields) × (v < 2 ^ (8 * (4 - left)))
-    × Comes el (groupsFrom left v) (cur .at) (cur .fields) (told (run el (groupsFrom 4 0) (cur₀ .at) (cur₀ .fields)))
+    Adding 4 left v el cur (groupsFrom left v) (told (run el (groupsFrom 4 0) (cur₀ .at) (cur₀ .fields)))
 
 abbrev μ-loop : tie.MeasureT-loop
 μ-loop el cur₀ v₀ left₀ cur v left = left
@@ -43,7 +42,7 @@ next : (c : tie.After-b Inv-loop μ-loop)
 next c =
     let l = c .before .before .before .before .before .before .before .before .before in
     let k : 8 * (4 - (l .loop .left - 1)) ≡ 8 * (4 - l .loop .left) + 8 = omega arith in
-    rw k (byte-more (l .loop .v) (c .b .given .0 .0) (8 * (4 - l .loop .left)) (l .loop .inv .2)
+    rw k (byte-more (l .loop .v) (c .b .given .0 .0) (8 * (4 - l .loop .left)) (l .loop .inv .small)
     (took _ 8 (second c) .narrow))
 
 room : (c : tie.After-b Inv-loop μ-loop)
@@ -54,7 +53,7 @@ room c =
     omega (arith, next c, pow-mono {i = 8 * (4 - (l .loop .left - 1))} {j = 32} (omega arith))
 
 loop-holds : tie.Need-loop-holds Inv-loop μ-loop
-loop-holds c = (omega arith, omega arith, omega arith, itself)
+loop-holds c = record { few = omega arith; stands = omega arith; small = omega arith; comes = itself }
 
 fetch-requires : tie.Need-fetch-requires Inv-loop μ-loop
 fetch-requires c κs = omega arith
@@ -64,7 +63,7 @@ returns c =
     let l = c .before .before .before .before in
     let q = c .enum-told .given .1 in
     ap toldFetched q ∙ same-end (groups-stop (l .loop .left) (l .loop .v) (omega arith)
-    (got toldFetched _ _ _ _ (c .before .before .fetch .ensures) q)) (l .loop .inv .3)
+    (got toldFetched _ _ _ _ (c .before .before .fetch .ensures) q)) (l .loop .inv .comes)
 
 returns-2 : tie.Need-returns-2 Inv-loop μ-loop
 returns-2 d =
@@ -72,13 +71,13 @@ returns-2 d =
     let l = e .before .before .before .before in
     ap refusal (d .refused-at .ensures)
     ∙ same-end (groups-over (l .loop .left) (l .loop .v) (omega arith) (first e)
-    (not-true _ (d .before .if1 .taken))) (l .loop .inv .3)
+    (not-true _ (d .before .if1 .taken))) (l .loop .inv .comes)
 
 fetch-requires-2 : tie.Need-fetch-requires-2 Inv-loop μ-loop
 fetch-requires-2 c κs =
     let d = c .before .before in
     let l = d .before .before .before .before in
-    (omega arith, omega arith, steady (first d) (l .loop .inv .1))
+    (omega arith, omega arith, steady (first d) (l .loop .inv .stands))
 
 returns-3 : tie.Need-returns-3 Inv-loop μ-loop
 returns-3 c =
@@ -88,7 +87,7 @@ returns-3 c =
     let q = c .enum-told2 .given .1 in
     ap toldFetched q
     ∙ same-end (groups-cut (l .loop .left) (l .loop .v) (omega arith) (first d) (not-false _ (i .if1 .left))
-    (got toldFetched _ _ _ _ (c .before .before .fetch2 .ensures) q)) (l .loop .inv .3)
+    (got toldFetched _ _ _ _ (c .before .before .fetch2 .ensures) q)) (l .loop .inv .comes)
 
 mul-v : tie.Need-mul-v Inv-loop μ-loop
 mul-v c = omega (arith, room (c .before))
@@ -103,7 +102,7 @@ returns-4 c =
     let d = i .before .before in
     let l = d .before .before .before .before in
     same-end (groups-last (l .loop .left) (l .loop .v) (omega arith) (first d) (not-false _ (i .if1 .left)) (second e)
-    (c .if2 .taken)) (l .loop .inv .3)
+    (c .if2 .taken)) (l .loop .inv .comes)
 
 sub-left : tie.Need-sub-left Inv-loop μ-loop
 sub-left c = omega arith
@@ -116,18 +115,19 @@ loop-again c =
     let e = c .before .before in
     let i = e .before .before .before in
     let d = i .before .before in
-    let l = d .before .before .before .before in (
-      omega arith,
-      steady (second e) (steady (first d) (l .loop .inv .1)),
-      next e,
-      groups-turn (l .loop .left) (l .loop .v) (omega arith) (first d) (not-false _ (i .if1 .left)) (second e)
-          (omega arith) (l .loop .inv .3),
-    )
+    let l = d .before .before .before .before in
+    record {
+      few = omega arith;
+      stands = steady (second e) (steady (first d) (l .loop .inv .stands));
+      small = next e;
+      comes = groups-turn (l .loop .left) (l .loop .v) (omega arith) (first d) (not-false _ (i .if1 .left)) (second e)
+          (omega arith) (l .loop .inv .comes);
+    }
 
 returns-5 : tie.Need-returns-5 Inv-loop μ-loop
 returns-5 c =
     let l = c .before in
-    same-end (groups-done (l .loop .left) (l .loop .v) (omega arith)) (l .loop .inv .3)
+    same-end (groups-done (l .loop .left) (l .loop .v) (omega arith)) (l .loop .inv .comes)
 
 pub groups-of-spec : {M : Type 1} → statement M
 groups-of-spec =
