@@ -1,18 +1,30 @@
--- Laws of the hunt: a turn of its loop, and its end.
-use mathlib.Core.Path.{_≡_, sym, _∙_}
+-- Laws of the hunt: the tests of a mark and of a frame, a turn of its loop, and its end.
+use mathlib.Core.Path.{_≡_, refl, sym, _∙_}
 use mathlib.Core.Bool.{Bool, true, false, _&&_, _||_}
 use mathlib.Core.List.{List, []}
-use Prim.Native.Nat.{ℕ, suc, _+_, _-_, _≤_, _<_}
+use Prim.Native.Nat.{ℕ, suc, _+_, _-_, _/_, _≤_, _<_}
 use native.Mathlib.Omega.{arith}
 use lib.Dec.{leb, eqb}
-use lib.ListN.{length, take, drop}
-use borrow.Author.Tests.{lt-ltb, le-ltb}
+use lib.ListN.{length, getD, take, drop}
+use borrow.Author.Tests.{lt-ltb, le-ltb, ne-eqb}
 use Rattle.sync.specs.declared.Hunted.{Hunted}
 use Rattle.sync.specs.declared.Hunted.the-variants.{Found, Refused}
 use Rattle.sync.specs.Sync.{marked, sizeAt, frameAt, firstOf, huntOf, elementAt}
 use Rattle.kernel.specs.Answer.{unread}
 
+and-false : (b : Bool) → (b && false) ≡ false
+and-false true = refl
+and-false false = refl
+
 module _ (s : List ℕ) (p : ℕ) where
+  -- the tests of a mark, its first byte before the others
+  pub no-mark : ¬ (getD s p 0 ≡ 0x56) → false ≡ marked s p
+  no-mark h = rw (ne-eqb (getD s p 0) 0x56 h, and-false (leb (p + 2) (length s)))
+
+  pub mark-is : (b : ℕ) → getD s p 0 ≡ 0x56 → b ≡ getD s (p + 1) 0
+      → (leb (p + 2) (length s) && eqb (b / 32) 7) ≡ marked s p
+  mark-is b e q = rw (e, q)
+
   pub first-here : p < length s → frameAt s p ≡ true → firstOf s p (length s - p) ≡ Found p (sizeAt s p)
   unfolding firstOf
   first-here h e = let n : length s - p ≡ suc (length s - (p + 1)) = omega arith in rw (n, e)

@@ -36,7 +36,10 @@ fn marked(s: &[u8], p: usize) -> bool
     requires { ⌜ p ≤ 100000 ⌝ }
     ensures { λ r. ⌜ r ≡ marked (now (s .entry)) p ⌝ }
 {
-    (p + 2 <= s.len()) & ((byte_at(s, p) == 0x56) & (byte_at(s, p + 1) / 32 == 7))
+    if byte_at(s, p) == 0x56 {
+        return (p + 2 <= s.len()) & (byte_at(s, p + 1) / 32 == 7);
+    }
+    false
 }
 
 fn size_at(s: &[u8], p: usize) -> usize
