@@ -25,7 +25,7 @@ use rates::frequency_of;
 use records::Config;
 use records::Form;
 use records::Freq;
-use signalling::tail_of;
+use signalling::asc_tail;
 
 // A frequency and the cursor behind it.
 pub struct ReadFreq {
@@ -162,7 +162,7 @@ fn alone_of(el: &[u8], win: Window, c: Cursor, t: u32, f: Freq, channels: u32) -
         Flagged::Value(r) => r,
         Flagged::Refused(x) => return Configured::Refused(x),
     };
-    let formed = match tail_of(el, win, flagged.next) {
+    let formed = match asc_tail(el, win, flagged.next) {
         Formed::Value(r) => r,
         Formed::Refused(x) => return Configured::Refused(x),
     };

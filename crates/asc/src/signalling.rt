@@ -130,8 +130,8 @@ fn sync_extension(el: &[u8], win: Window, c: Cursor) -> Formed
     })
 }
 
-// The tail behind the flags, where at least 16 bits of ascLen are left.
-pub fn tail_of(el: &[u8], win: Window, c: Cursor) -> Formed
+// The tail of an AudioSpecificConfig, 0x2B7 and what it signals, where at least 16 bits of ascLen are left.
+pub fn asc_tail(el: &[u8], win: Window, c: Cursor) -> Formed
     requires { ⌜ Stands (now el) (c .at) (c .fields) ⌝ }
     ensures { λ r. ⌜ Tells toldFormed (now (el .entry)) (tail win) (c .at) (c .fields) r ⌝ }
 {

@@ -21,7 +21,7 @@ abbrev formed : (c : tie.After-r2) → From (c .before .before .before .before .
 unfolding alone
 formed c =
     then (flagged (c .before .before .before .before)) _ refl
-    (got toldFormed _ _ _ _ (c .before .before .tail-of .ensures) (c .r2 .given .1))
+    (got toldFormed _ _ _ _ (c .before .before .asc-tail .ensures) (c .r2 .given .1))
 
 returns : tie.Need-returns
 unfolding alone
@@ -29,16 +29,16 @@ returns c =
     let x = c .before in
     stops start _ refl (got toldFlagged _ _ _ _ (x .before .before .flags-of .ensures) (x .x .given .1))
 
-tail-of-requires : tie.Need-tail-of-requires
+asc-tail-requires : tie.Need-asc-tail-requires
 unfolding flagged
-tail-of-requires c κs = flagged (c .before) .stands (omega arith)
+asc-tail-requires c κs = flagged (c .before) .stands (omega arith)
 
 returns-2 : tie.Need-returns-2
 unfolding alone
 returns-2 c =
     let x = c .before in
     stops (flagged (x .before .before .before .before)) _ refl
-    (got toldFormed _ _ _ _ (x .before .before .tail-of .ensures) (x .x2 .given .1))
+    (got toldFormed _ _ _ _ (x .before .before .asc-tail .ensures) (x .x2 .given .1))
 
 returns-3 : tie.Need-returns-3
 unfolding alone
@@ -47,5 +47,5 @@ returns-3 c = rw (c .before .config-of .ensures) (ends (formed (c .before .befor
 pub alone-of-spec : {M : Type 1} → statement M
 alone-of-spec =
     tie.close
-    (tie.spec (λ c κs. search needs) (λ c. search needs) (λ c. search needs) returns tail-of-requires
+    (tie.spec (λ c κs. search needs) (λ c. search needs) (λ c. search needs) returns asc-tail-requires
     (λ c. search needs) (λ c. search needs) returns-2 (λ c κs. search needs) returns-3)

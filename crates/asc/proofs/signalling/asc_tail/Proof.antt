@@ -1,11 +1,11 @@
--- `asc::signalling::tail_of` meets its contract.
+-- `asc::signalling::asc_tail` meets its contract.
 use Prim.Native.Nat.{_≤_, _<_}
 use borrow.Author.Needs.{needs}
 use borrow.Author.Tests.{le-leb, lt-leb}
 use Rattle.kernel.proofs.Chain.{met, so, gives, yes-way, no-way, placed}
 use Rattle.asc.specs.Asc.{tail}
-use Rattle.asc.proofs.signalling.tail_of.Statement.{statement}
-use Rattle.asc.proofs.signalling.tail_of.Tie as tie
+use Rattle.asc.proofs.signalling.asc_tail.Statement.{statement}
+use Rattle.asc.proofs.signalling.asc_tail.Tie as tie
 
 returns : tie.Need-returns
 unfolding tail
@@ -21,8 +21,8 @@ returns-2 c =
     let h : l .result < 16 = c .if1 .left in
     so (placed _ (no-way _ (rw (← l .ensures) (lt-leb 16 (l .result) h)) gives))
 
-pub tail-of-spec : {M : Type 1} → statement M
-tail-of-spec = tie.close (tie.spec
+pub asc-tail-spec : {M : Type 1} → statement M
+asc-tail-spec = tie.close (tie.spec
     (λ c κs. search needs)
     (λ c κs. search needs)
     returns
