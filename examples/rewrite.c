@@ -45,8 +45,8 @@ static void write_anew(const uint32_t *record, bool send)
 {
     static uint8_t element[SCHILF_ELEMENT_BYTES], frame[SCHILF_FRAME_HEAD + SCHILF_ELEMENT_BYTES];
     size_t size;
-    if (schilf_write(record, send, parts.lengths, parts.slots, parts.payload, parts.payload_bytes, parts.other, parts.other_bytes, element,
-                     sizeof element, &size) == 0
+    if (schilf_write(record, send, parts.lengths, parts.slots, parts.payload, parts.payload_bytes, parts.other,
+                     parts.other_bytes, element, sizeof element, &size) == 0
         && schilf_frame(element, size, frame, sizeof frame, &size) == 0)
         fwrite(frame, 1, size, stdout);
 }
@@ -72,7 +72,8 @@ int main(int argc, char **argv)
         fprintf(stderr, "only the first %zu bytes of the capture are read\n", size);
     fclose(file);
 
-    for (size_t at = 0; schilf_hunt(capture, size, at, found) == 0; at = found[SCHILF_FOUND_PLACE] + SCHILF_FRAME_HEAD + found[SCHILF_FOUND_SIZE]) {
+    for (size_t at = 0; schilf_hunt(capture, size, at, found) == 0;
+         at = found[SCHILF_FOUND_PLACE] + SCHILF_FRAME_HEAD + found[SCHILF_FOUND_SIZE]) {
         const uint8_t *element = capture + found[SCHILF_FOUND_PLACE] + SCHILF_FRAME_HEAD;
         if (schilf_read(element, found[SCHILF_FOUND_SIZE], held, map, SCHILF_MAP_WORDS, answer) != 0)
             continue;

@@ -23,9 +23,11 @@ static void print_rows(size_t element, const uint32_t *record)
         for (uint32_t layer = 0; layer < SCHILF_LAYERS; layer++) {
             if (schilf_row(record, program, layer, row) != 0 || row[SCHILF_ROW_STREAM] == SCHILF_NO_STREAM)
                 continue;
-            printf("%7zu  %7" PRIu32 "  %5" PRIu32 "  %6" PRId64 "  %-10s  %8" PRId64 "  %9" PRId64 "  %-13s  %-13s  %15" PRId64 "\n",
-                   element, program, layer, row[SCHILF_ROW_STREAM], type_of(row[SCHILF_ROW_CORE]), row[SCHILF_ROW_RATE],
-                   row[SCHILF_ROW_OUTPUT], flag(row[SCHILF_ROW_SBR]), flag(row[SCHILF_ROW_PS]), row[SCHILF_ROW_CHANNELS]);
+            printf("%7zu  %7" PRIu32 "  %5" PRIu32 "  %6" PRId64 "  %-10s  %8" PRId64 "  %9" PRId64
+                   "  %-13s  %-13s  %15" PRId64 "\n",
+                   element, program, layer, row[SCHILF_ROW_STREAM], type_of(row[SCHILF_ROW_CORE]),
+                   row[SCHILF_ROW_RATE], row[SCHILF_ROW_OUTPUT], flag(row[SCHILF_ROW_SBR]), flag(row[SCHILF_ROW_PS]),
+                   row[SCHILF_ROW_CHANNELS]);
         }
     }
 }
@@ -51,7 +53,8 @@ int main(int argc, char **argv)
         fprintf(stderr, "only the first %zu bytes of the capture are read\n", size);
     fclose(file);
 
-    puts("element  program  layer  stream  core type    core Hz  output Hz  SBR            PS             output channels");
+    puts("element  program  layer  stream  core type    core Hz  output Hz  "
+         "SBR            PS             output channels");
     size_t at = 0;
     for (size_t element = 0; schilf_hunt(capture, size, at, found) == 0; element++) {
         size_t start = found[SCHILF_FOUND_PLACE] + SCHILF_FRAME_HEAD;

@@ -1,6 +1,6 @@
 #!/usr/bin/env python3
-"""Lays out, field by field, the elements of crates/worked/specs/Edges.antt and the whole elements of Worked.antt behind 01's own two, and sees that
-they stand there with the verdict and the map that the layout gives:
+"""Lays out, field by field, the elements of crates/worked/specs/Edges.antt and the whole elements of Worked.antt behind
+01's own two, and sees that they stand there with the verdict and the map that the layout gives:
 
     python3 tests/edge_cases.py            # 'N cases stand in the definitions'
     python3 tests/edge_cases.py --print    # prints the cases as they stand there
@@ -83,12 +83,15 @@ for length, mux, ways in [
 
 # a stream of each form
 forms = [(3, 2, "none", None), (6, 1, "type 5", 3), (7, 1, "type 29", 4), (6, 1, "flag 0", None), (6, 1, "flag 1", 3)]
-streams = [Layer(Audio(frequency=Index(i), channels=c, form=f, extension=None if x is None else Index(x))) for i, c, f, x in forms]
+streams = [
+    Layer(Audio(frequency=Index(i), channels=c, form=f, extension=None if x is None else Index(x)))
+    for i, c, f, x in forms
+]
 streams.append(Layer(Audio(frequency=Index(8), channels=1, form="flag 1 PS 0", extension=Hz(32001))))
 streams.append(Layer(Audio(frequency=Hz(24001), channels=1, form="flag 1 PS 1", extension=Index(3))))
 accepted(whole(Mux((tuple(streams[:3]), tuple(streams[3:])), version=1), [b""] * 7))
 
-# 16 streams and two subframes: every core type, frequency and channel configuration; the last stream has slots of 20 bytes
+# 16 streams and two subframes: every core type, frequency and channel configuration; the last has slots of 20 bytes
 rates = [Index(i) for i in range(13)] + [Hz(1), Hz(0xFFFFFF), Index(0)]
 audios = [Audio(core=i % 4 + 1, frequency=rates[i], channels=i % 7 + 1, frame_length_flag=i % 2) for i in range(16)]
 streams = [Layer(audio, 0, 17 * i) for i, audio in enumerate(audios[:15])] + [Layer(audios[15], 1, 0)]
@@ -134,7 +137,8 @@ def main():
     missing = [case for case in cases if case not in text]
     for case in missing:
         print("not in the definitions:", case)
-    print(f"{len(cases) - len(missing)} cases stand in the definitions" + (f", {len(missing)} do not" if missing else ""))
+    stand = f"{len(cases) - len(missing)} cases stand in the definitions"
+    print(stand + (f", {len(missing)} do not" if missing else ""))
     sys.exit(1 if missing else 0)
 
 

@@ -1,12 +1,13 @@
 #!/usr/bin/env python3
-"""Writes crates/exercise/stdin, a script of cases (docs/SCRIPT.md), and crates/exercise/stdout, the answers that document 01 asks for:
+"""Writes crates/exercise/stdin, a script of cases (docs/SCRIPT.md), and crates/exercise/stdout, the answers that
+document 01 asks for:
 
     (cd tests/second && cargo build --offline --release)
     python3 tests/exercise_cases.py tests/second/target/release/second
 
-First come elements that are laid out here field by field, or copied from document 01 with its answers, and hunts. Nothing here reads an
-element: the place, width and count of each item are known because it was laid out here, and the second program must answer the same. Then come cases that the second program makes from fixed seeds, with
-its answers.
+First come elements that are laid out here field by field, or copied from document 01 with its answers, and hunts.
+Nothing here reads an element: the place, width and count of each item are known because it was laid out here, and the
+second program must answer the same. Then come cases that the second program makes from fixed seeds, with its answers.
 """
 import pathlib
 import subprocess
@@ -44,7 +45,7 @@ def good(element, sent):
 
 
 def record(layers, slots, subframes, index=3, channels=2, other=None, crc=None):
-    """layers: streams of each program; slots: None for frameLengthType 0, else the frameLength of type 1, for each stream."""
+    """layers: streams of each program; slots: for each stream None for frameLengthType 0, else the frameLength of 1."""
     audio = Audio(frequency=Index(index), channels=channels)
     streams = iter([Layer(audio) if slot is None else Layer(audio, 1, slot) for slot in slots])
     programs = tuple(tuple(next(streams) for _ in range(count)) for count in layers)
@@ -60,8 +61,8 @@ def sent(layers, slots, subframes, **more):
 
 
 def no_room(*parts, size=0):
-    """With a configuration held: length bytes (a list) and payloads (so many bytes), and at least `size` bytes in all, in which what comes
-    next has no room."""
+    """With a configuration held: length bytes (a list) and payloads (so many bytes), and at least `size` bytes in all,
+    in which what comes next has no room."""
     e = Element()
     e.flag(1)
     for part in parts:

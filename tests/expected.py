@@ -50,7 +50,10 @@ COLUMNS = {
 
 @dataclass
 class Frame:
-    """A frame that stands. Its element is accepted with these items, or refused; it sends a record, or is laid out for a held one."""
+    """A frame that stands.
+
+    Its element is accepted with these items, or refused; it sends a record, or is laid out for a held one.
+    """
 
     element: bytes
     items: tuple = ()
@@ -113,8 +116,8 @@ def rows(element, record):
             sbr, ps = SIGNALLED[audio.form]
             output = audio.extension if sbr == 1 else audio.frequency
             core = f"{audio.core} {CORES[audio.core]}"
-            signs = SIGNS[sbr], SIGNS[ps]
-            yield line(element, program, layer, stream, core, audio.frequency.hz, output.hz, *signs, CHANNELS[audio.channels])
+            said = SIGNS[sbr], SIGNS[ps], CHANNELS[audio.channels]
+            yield line(element, program, layer, stream, core, audio.frequency.hz, output.hz, *said)
             stream += 1
 
 
@@ -125,7 +128,8 @@ def summary(pieces):
             number, place, count = refusal
             if number == 4 and NO_CONFIGURATION not in lines:
                 lines.append(NO_CONFIGURATION)
-            lines.append(f"{element:>7}  refused {number:>2}  at bit {place:>5}  fields read {count:>5}  {WORDS[number]}")
+            where = f"at bit {place:>5}  fields read {count:>5}"
+            lines.append(f"{element:>7}  refused {number:>2}  {where}  {WORDS[number]}")
         elif changed:
             lines += rows(element, changed)
     if all(isinstance(piece, bytes) for piece in pieces):

@@ -1,12 +1,12 @@
 #!/usr/bin/env python3
 """Writes the listing and the summary expected of each capture that samples/make-ffmpeg made.
 
-Places and sizes of the frames are those that FFmpeg's own reader gives (.frames), rate and channels those of the command. FFmpeg's
-multiplexer sends a configuration in every so many elements: version 0, one program and layer, AAC LC, frameLengthType 0,
-latmBufferFullness 255, no other data, no checksum: 44 bits. A payload of P bytes and its P // 255 + 1 length bytes fill the rest up to
-the alignment, and so the size of the element gives P; it must be the size that the encoder handed over (.packets). From that the
-element is laid out here, and all of it outside payload and alignment must stand in the capture; of a configuration that is refused, what
-stands up to the end of the field that is.
+Places and sizes of the frames are those that FFmpeg's own reader gives (.frames), rate and channels those of the
+command. FFmpeg's multiplexer sends a configuration in every so many elements: version 0, one program and layer, AAC LC,
+frameLengthType 0, latmBufferFullness 255, no other data, no checksum: 44 bits. A payload of P bytes and its P // 255 +
+1 length bytes fill the rest up to the alignment, and so the size of the element gives P; it must be the size that the
+encoder handed over (.packets). From that the element is laid out here, and all of it outside payload and alignment must
+stand in the capture; of a configuration that is refused, what stands up to the end of the field that is.
 """
 import pathlib
 import shlex

@@ -1,4 +1,4 @@
-"""Lays out elements field by field, and so knows what document 01 asks of them: items, fields read, and the place of a refusal.
+"""Lays out elements field by field, and so knows what document 01 asks of them: items, fields read, place of a refusal.
 
 Nothing here reads an element: each place and width is known because it was laid out here.
 """
@@ -11,7 +11,7 @@ NOT_FIELDS = ("fill", "payload", "other data")
 
 @dataclass(frozen=True)
 class Index:
-    """A frequency sent as an index. It is not equal to the same frequency sent in 24 bits: the record tells them apart."""
+    """A frequency sent as an index. It is not equal to the same one sent in 24 bits: the record tells them apart."""
 
     index: int
 
@@ -29,7 +29,10 @@ class Hz:
 
 @dataclass(frozen=True)
 class Audio:
-    """An AudioSpecificConfig. Forms: none, type 5, type 29; after 0x2B7: flag 0, flag 1, flag 1 with PS 0, flag 1 with PS 1."""
+    """An AudioSpecificConfig.
+
+    Forms: none, type 5, type 29; after 0x2B7: flag 0, flag 1, flag 1 with PS 0, flag 1 with PS 1.
+    """
 
     core: int = 2
     frequency: object = Index(3)
@@ -43,7 +46,7 @@ class Audio:
 
 @dataclass(frozen=True)
 class Layer:
-    """The value is latmBufferFullness for frameLengthType 0 and frameLength for type 1; other types, all refused, have none."""
+    """The value is latmBufferFullness for frameLengthType 0 and frameLength for 1; others are refused and have none."""
 
     audio: Audio = Audio()
     type: int = 0
@@ -150,8 +153,9 @@ class Element:
     def config(self, mux, anew=(), tails={}, asc_len={}, size=1, groups=1):
         """How the record is sent, which is not part of it.
 
-        anew: streams whose configuration is sent although it equals the one before; tails: looked_at and fill by stream (version 1);
-        asc_len: by stream, where it is not to fit; size: bytes of a variable value, groups: of the length of other data, at least.
+        anew: streams whose configuration is sent although it equals the one before; tails: looked_at and fill by stream
+        (version 1); asc_len: by stream, where it is not to fit; size: bytes of a variable value, groups: of the length
+        of other data, at least.
         """
         first = self.at()
         self.part("audioMuxVersion", 1, mux.version)
@@ -196,7 +200,8 @@ class Element:
     def subframe(self, streams, sizes):
         """sizes: bytes of each payload; of no meaning for a stream of frameLengthType 1."""
         sizes = [layer.value + 20 if layer.type == 1 else size for layer, size in zip(streams, sizes)]
-        self.payloads(streams, [bytes((37 * i + stream) % 256 for i in range(size)) for stream, size in enumerate(sizes)])
+        payloads = [bytes((37 * i + stream) % 256 for i in range(size)) for stream, size in enumerate(sizes)]
+        self.payloads(streams, payloads)
 
     def payloads(self, streams, payloads):
         """A subframe of these payloads; for a stream of frameLengthType 1 they have the size it says."""
@@ -212,7 +217,7 @@ class Element:
             self.item("P", stream, first)
 
     def end(self, other=None, value=1, align=1):
-        """other: bits of other data, and their value; align: the alignment takes as many of its lowest bits as it has."""
+        """other: bits of other data, and their value; align: the alignment takes as many of its low bits as it has."""
         if other is not None:
             first = self.at()
             self.part("other data", other, value)
@@ -232,7 +237,7 @@ class Element:
         return number, fields[i][1], i + 1 + more
 
     def refused_past(self, number, end):
-        """The refusal of the first part that passes the bit `end`, be it the end of the element (3) or of ascLen (10)."""
+        """The refusal of the first part that passes bit `end`, be it the end of the element (3) or of ascLen (10)."""
         i = [i for i, (_, first, width) in enumerate(self.parts) if first + width > end][0]
         return number, self.parts[i][1], sum(name not in NOT_FIELDS for name, _, _ in self.parts[:i])
 

@@ -1,6 +1,6 @@
-/* Calls every function of the library as a C caller does: document 01's worked elements, a record by the names of its words, refusals (of a
- * reading 1 to 4 and 15), words that are no record's, and that a refused call leaves what was lent as it stood, save a reading's answer.
- * Expected values are 01's, or follow from it. */
+/* Calls every function of the library as a C caller does: document 01's worked elements, a record by the names of its
+ * words, refusals (of a reading 1 to 4 and 15), words that are no record's, and that a refused call leaves what was
+ * lent as it stood, save a reading's answer. Expected values are 01's, or follow from it. */
 #include <stdio.h>
 #include <string.h>
 
@@ -8,7 +8,8 @@
 
 enum { ROOM = 8300 };
 
-static const uint8_t capture[] = {0x56, 0xE0, 0x09, 0x20, 0x00, 0x11, 0x90, 0x1F, 0xE0, 0x15, 0x5E, 0x68, 0x56, 0xE0, 0x02, 0x80, 0x00};
+static const uint8_t capture[] = {0x56, 0xE0, 0x09, 0x20, 0x00, 0x11, 0x90, 0x1F, 0xE0,
+                                  0x15, 0x5E, 0x68, 0x56, 0xE0, 0x02, 0x80, 0x00};
 static const uint8_t *const first = capture + 3, *const second = capture + 15;
 static const uint8_t payload[] = {0xAB, 0xCD}, bytes[8192], none[1];
 
@@ -28,15 +29,18 @@ static void check(const char *what, bool holds)
 static void hunts(void)
 {
     size_t found[] = {7, 7};
-    check("hunt from 0", schilf_hunt(capture, 17, 0, found) == 0 && found[SCHILF_FOUND_PLACE] == 0 && found[SCHILF_FOUND_SIZE] == 9);
-    check("hunt from 1", schilf_hunt(capture, 17, 1, found) == 0 && found[SCHILF_FOUND_PLACE] == 12 && found[SCHILF_FOUND_SIZE] == 2);
+    check("hunt from 0", schilf_hunt(capture, 17, 0, found) == 0 && found[SCHILF_FOUND_PLACE] == 0 &&
+                             found[SCHILF_FOUND_SIZE] == 9);
+    check("hunt from 1", schilf_hunt(capture, 17, 1, found) == 0 && found[SCHILF_FOUND_PLACE] == 12 &&
+                             found[SCHILF_FOUND_SIZE] == 2);
     check("hunt behind the last", schilf_hunt(capture, 17, 13, found) == 20 && found[0] == 12 && found[1] == 2);
     check("hunt in no byte", schilf_hunt(none, 0, 0, found) == 20 && found[0] == 12 && found[1] == 2);
 }
 
-/* A read of `count` bytes with `words` held and room for `room` numbers: refused with this number, place and count, and held and map stay. */
-static void refused(const char *what, const uint8_t *element, size_t count, const uint32_t *words, size_t room, size_t number, size_t place,
-                    size_t fields)
+/* A read of `count` bytes with `words` held and room for `room` numbers: refused with this number, place and count, and
+ * held and map stay. */
+static void refused(const char *what, const uint8_t *element, size_t count, const uint32_t *words, size_t room,
+                    size_t number, size_t place, size_t fields)
 {
     uint32_t kept[SCHILF_HELD_WORDS];
     memcpy(kept, words, sizeof kept);
@@ -44,15 +48,18 @@ static void refused(const char *what, const uint8_t *element, size_t count, cons
     bool same = schilf_read(element, count, kept, map, room, answer) == number;
     for (size_t i = 0; i < SCHILF_MAP_WORDS; i++)
         same = same && map[i] == 0x5A5A5A5A;
-    check(what, same && memcmp(kept, words, sizeof kept) == 0 && answer[SCHILF_ANSWER_ITEMS] == 0 && answer[SCHILF_ANSWER_PLACE] == place &&
-                    answer[SCHILF_ANSWER_FIELDS] == fields && answer[SCHILF_ANSWER_SENT] == 0);
+    check(what, same && memcmp(kept, words, sizeof kept) == 0 && answer[SCHILF_ANSWER_ITEMS] == 0 &&
+                    answer[SCHILF_ANSWER_PLACE] == place && answer[SCHILF_ANSWER_FIELDS] == fields &&
+                    answer[SCHILF_ANSWER_SENT] == 0);
 }
 
-static void accepted(const char *what, const uint8_t *element, size_t count, const uint32_t *items, size_t number, size_t fields, size_t sent)
+static void accepted(const char *what, const uint8_t *element, size_t count, const uint32_t *items, size_t number,
+                     size_t fields, size_t sent)
 {
     memset(map, 0x5A, sizeof map);
-    check(what, schilf_read(element, count, held, map, SCHILF_MAP_WORDS, answer) == 0 && answer[SCHILF_ANSWER_ITEMS] == number &&
-                    answer[SCHILF_ANSWER_PLACE] == 0 && answer[SCHILF_ANSWER_FIELDS] == fields && answer[SCHILF_ANSWER_SENT] == sent &&
+    check(what, schilf_read(element, count, held, map, SCHILF_MAP_WORDS, answer) == 0 &&
+                    answer[SCHILF_ANSWER_ITEMS] == number && answer[SCHILF_ANSWER_PLACE] == 0 &&
+                    answer[SCHILF_ANSWER_FIELDS] == fields && answer[SCHILF_ANSWER_SENT] == sent &&
                     memcmp(map, items, 16 * number) == 0 && map[4 * number] == 0x5A5A5A5A);
 }
 
@@ -86,7 +93,8 @@ static void reads(void)
 
 static void rows(void)
 {
-    static const int64_t expected[] = {0, 0, 0, 2, 48000, 48000, -1, -1, 2}, absent[SCHILF_ROW_WORDS] = {SCHILF_NO_STREAM};
+    static const int64_t expected[] = {0, 0, 0, 2, 48000, 48000, -1, -1, 2};
+    static const int64_t absent[SCHILF_ROW_WORDS] = {SCHILF_NO_STREAM};
     uint32_t words[SCHILF_HELD_WORDS];
     int64_t row[SCHILF_ROW_WORDS] = {0};
     check("the row", schilf_row(held, 0, 0, row) == 0 && memcmp(row, expected, sizeof row) == 0);
@@ -94,7 +102,8 @@ static void rows(void)
     words[SCHILF_STREAM_AT(0) + SCHILF_STREAM_FORM] = 6;
     check("16, a row of a form of 6", schilf_row(words, 0, 0, row) == 16 && memcmp(row, expected, sizeof row) == 0);
     check("no such layer", schilf_row(held, 0, 1, row) == 0 && memcmp(row, absent, sizeof row) == 0);
-    check("no such program", schilf_row(held, UINT32_MAX, UINT32_MAX, row) == 0 && memcmp(row, absent, sizeof row) == 0);
+    check("no such program",
+          schilf_row(held, UINT32_MAX, UINT32_MAX, row) == 0 && memcmp(row, absent, sizeof row) == 0);
 }
 
 /* The output, and whether only its first `count` bytes are other than before. */
@@ -108,12 +117,14 @@ static bool untouched(size_t count)
     return true;
 }
 
-static void unwritten(const char *what, const uint32_t *record, size_t lengths, size_t payloads, size_t other, size_t room, size_t number)
+static void unwritten(const char *what, const uint32_t *record, size_t lengths, size_t payloads, size_t other,
+                      size_t room, size_t number)
 {
     static const uint32_t two[] = {2, 2};
     size_t written = 7;
     memset(out, 0x5A, ROOM);
-    check(what, schilf_write(record, true, two, lengths, payload, payloads, bytes, other, out, room, &written) == number && written == 7 && untouched(0));
+    size_t answered = schilf_write(record, true, two, lengths, payload, payloads, bytes, other, out, room, &written);
+    check(what, answered == number && written == 7 && untouched(0));
 }
 
 static void writes(void)
@@ -122,11 +133,11 @@ static void writes(void)
     uint32_t words[SCHILF_HELD_WORDS], *const stream = words + SCHILF_STREAM_AT(0);
     size_t written = 7;
     memset(out, 0x5A, ROOM);
-    check("written with its record", schilf_write(held, true, &two, 1, payload, 2, none, 0, out, ROOM, &written) == 0 && written == 9 &&
-                                         memcmp(out, first, 9) == 0 && untouched(9));
+    check("written with its record", schilf_write(held, true, &two, 1, payload, 2, none, 0, out, ROOM, &written) == 0 &&
+                                         written == 9 && memcmp(out, first, 9) == 0 && untouched(9));
     memset(out, 0x5A, ROOM);
-    check("written without it", schilf_write(held, false, &zero, 1, none, 0, none, 0, out, 2, &written) == 0 && written == 2 &&
-                                    memcmp(out, second, 2) == 0 && untouched(2));
+    check("written without it", schilf_write(held, false, &zero, 1, none, 0, none, 0, out, 2, &written) == 0 &&
+                                    written == 2 && memcmp(out, second, 2) == 0 && untouched(2));
     memcpy(words, held, sizeof words);
     stream[SCHILF_STREAM_FORM] = 6;
     unwritten("16, a form of 6", words, 1, 2, 0, ROOM, 16);
@@ -140,8 +151,8 @@ static void writes(void)
     unwritten("19", held, 1, 2, 0, 8, 19);
 }
 
-/* An element whose record has something in every word that may hold something, laid out by tests/layout.py. Behind the configuration all
- * is 0: four subframes, each of two empty slots and two of 29 bytes, then 12 bits of other data. */
+/* An element whose record has something in every word that may hold something, laid out by tests/layout.py. Behind the
+ * configuration all is 0: four subframes, each of two empty slots and two of 29 bytes, then 12 bits of other data. */
 static void names(void)
 {
     static const uint8_t element[280] = {0x48, 0x09, 0x64, 0x32, 0x02, 0x48, 0xBC, 0x02, 0xB0, 0x60, 0x62, 0xB7, 0x2C,
@@ -149,26 +160,29 @@ static void names(void)
                                          0x20, 0x19, 0x04, 0x08, 0x06, 0xDA, 0x10, 0x4C, 0x82, 0x60, 0x66, 0x94};
     static const uint32_t lengths[] = {0, 0, 29, 29, 0, 0, 29, 29, 0, 0, 29, 29, 0, 0, 29, 29};
     static const uint32_t streams[][SCHILF_STREAM_WORDS] = {
-        {[SCHILF_STREAM_CORE] = 2, [SCHILF_STREAM_CHOICE] = 1, [SCHILF_STREAM_FREQUENCY] = 44056, [SCHILF_STREAM_CHANNELS] = 1,
-         [SCHILF_STREAM_FLAG] = 1, [SCHILF_STREAM_FORM] = 5, [SCHILF_STREAM_FORM_FREQUENCY] = 3, [SCHILF_STREAM_PS] = 1,
-         [SCHILF_STREAM_FULLNESS] = 7},
-        {[SCHILF_STREAM_CORE] = 4, [SCHILF_STREAM_CHOICE] = 1, [SCHILF_STREAM_FREQUENCY] = 22049, [SCHILF_STREAM_CHANNELS] = 5,
-         [SCHILF_STREAM_FORM] = 2, [SCHILF_STREAM_FORM_CHOICE] = 1, [SCHILF_STREAM_FORM_FREQUENCY] = 48001, [SCHILF_STREAM_FULLNESS] = 200},
-        {[SCHILF_STREAM_CORE] = 1, [SCHILF_STREAM_FREQUENCY] = 11, [SCHILF_STREAM_CHANNELS] = 6, [SCHILF_STREAM_FLAG] = 1,
-         [SCHILF_STREAM_KIND] = 1, [SCHILF_STREAM_FIXED] = 9},
+        {[SCHILF_STREAM_CORE] = 2, [SCHILF_STREAM_CHOICE] = 1, [SCHILF_STREAM_FREQUENCY] = 44056,
+         [SCHILF_STREAM_CHANNELS] = 1, [SCHILF_STREAM_FLAG] = 1, [SCHILF_STREAM_FORM] = 5,
+         [SCHILF_STREAM_FORM_FREQUENCY] = 3, [SCHILF_STREAM_PS] = 1, [SCHILF_STREAM_FULLNESS] = 7},
+        {[SCHILF_STREAM_CORE] = 4, [SCHILF_STREAM_CHOICE] = 1, [SCHILF_STREAM_FREQUENCY] = 22049,
+         [SCHILF_STREAM_CHANNELS] = 5, [SCHILF_STREAM_FORM] = 2, [SCHILF_STREAM_FORM_CHOICE] = 1,
+         [SCHILF_STREAM_FORM_FREQUENCY] = 48001, [SCHILF_STREAM_FULLNESS] = 200},
+        {[SCHILF_STREAM_CORE] = 1, [SCHILF_STREAM_FREQUENCY] = 11, [SCHILF_STREAM_CHANNELS] = 6,
+         [SCHILF_STREAM_FLAG] = 1, [SCHILF_STREAM_KIND] = 1, [SCHILF_STREAM_FIXED] = 9},
     };
     uint32_t words[SCHILF_HELD_WORDS] = {
-        [SCHILF_RECORD_VERSION] = 1, [SCHILF_RECORD_TARA] = 300, [SCHILF_RECORD_FRAMING] = 1, [SCHILF_RECORD_SUBFRAMES] = 3,
-        [SCHILF_RECORD_PROGRAMS] = 2, [SCHILF_RECORD_OTHER] = 1, [SCHILF_RECORD_BITS] = 12, [SCHILF_RECORD_CHECKED] = 1,
-        [SCHILF_RECORD_CRC] = 0xA5, [SCHILF_RECORD_LAYERS + 2] = 1, [SCHILF_HELD_PRESENT] = 1};
+        [SCHILF_RECORD_VERSION] = 1, [SCHILF_RECORD_TARA] = 300, [SCHILF_RECORD_FRAMING] = 1,
+        [SCHILF_RECORD_SUBFRAMES] = 3, [SCHILF_RECORD_PROGRAMS] = 2, [SCHILF_RECORD_OTHER] = 1,
+        [SCHILF_RECORD_BITS] = 12, [SCHILF_RECORD_CHECKED] = 1, [SCHILF_RECORD_CRC] = 0xA5,
+        [SCHILF_RECORD_LAYERS + 2] = 1, [SCHILF_HELD_PRESENT] = 1};
     for (size_t i = 0; i < 4; i++)
         memcpy(words + SCHILF_STREAM_AT(i), streams[i < 3 ? i : 2], sizeof streams[0]);
     size_t written = 7;
-    check("read, with all names",
-          schilf_read(element, sizeof element, held, map, SCHILF_MAP_WORDS, answer) == 0 && memcmp(held, words, sizeof held) == 0);
+    check("read, with all names", schilf_read(element, sizeof element, held, map, SCHILF_MAP_WORDS, answer) == 0 &&
+                                      memcmp(held, words, sizeof held) == 0);
     memset(out, 0x5A, ROOM);
-    check("written, with all names", schilf_write(words, true, lengths, 16, bytes, 232, bytes, 2, out, ROOM, &written) == 0 &&
-                                         written == sizeof element && memcmp(out, element, sizeof element) == 0 && untouched(sizeof element));
+    check("written, with all names",
+          schilf_write(words, true, lengths, 16, bytes, 232, bytes, 2, out, ROOM, &written) == 0 &&
+              written == sizeof element && memcmp(out, element, sizeof element) == 0 && untouched(sizeof element));
 }
 
 static void frames(void)
@@ -176,9 +190,11 @@ static void frames(void)
     size_t written = 7;
     memset(out, 0x5A, ROOM);
     check("2, a frame of no byte", schilf_frame(none, 0, out, ROOM, &written) == 2 && written == 7 && untouched(0));
-    check("2, a frame of 8192 bytes", schilf_frame(bytes, 8192, out, ROOM, &written) == 2 && written == 7 && untouched(0));
+    check("2, a frame of 8192 bytes",
+          schilf_frame(bytes, 8192, out, ROOM, &written) == 2 && written == 7 && untouched(0));
     check("19, a frame", schilf_frame(first, 9, out, 11, &written) == 19 && written == 7 && untouched(0));
-    check("a frame", schilf_frame(first, 9, out, 12, &written) == 0 && written == 12 && memcmp(out, capture, 12) == 0 && untouched(12));
+    check("a frame", schilf_frame(first, 9, out, 12, &written) == 0 && written == 12 && memcmp(out, capture, 12) == 0 &&
+                         untouched(12));
 }
 
 int main(void)

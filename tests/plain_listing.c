@@ -1,5 +1,5 @@
-/* The listing in plain C, by document 01: what tests/speed counts ours against. It is a measure and no example, and keeps of a
- * configuration only what a listing needs. Its output is held to ours and to the second program's there. */
+/* The listing in plain C, by document 01: what tests/speed counts ours against. It is a measure and no example, and
+ * keeps of a configuration only what a listing needs. Its output is held to ours and to the second program's there. */
 #include <setjmp.h>
 #include <stdint.h>
 #include <stdio.h>

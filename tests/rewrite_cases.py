@@ -1,8 +1,9 @@
 #!/usr/bin/env python3
 """Lays out a capture and what `rewrite` must write for it, as crates/rewrite/stdin and stdout.
 
-Each accepted element is laid out twice from one record, its payloads and its other data: as it is sent, and as 01's writer sends it.
-Nothing here hunts for a frame or reads an element: which frames stand and are accepted is known because they were put there.
+Each accepted element is laid out twice from one record, its payloads and its other data: as it is sent, and as 01's
+writer sends it. Nothing here hunts for a frame or reads an element: which frames stand and are accepted is known
+because they were put there.
 """
 import pathlib
 from dataclasses import replace
@@ -35,7 +36,9 @@ def accepted(flag, record, sizes, align, ways):
     name = f"{len(pieces)}"
     payloads = [
         [
-            size if isinstance(size, bytes) else shake_128(f"{name} {i} {stream}".encode()).digest(layer.value + 20 if layer.type else size)
+            size
+            if isinstance(size, bytes)
+            else shake_128(f"{name} {i} {stream}".encode()).digest(layer.value + 20 if layer.type else size)
             for stream, (layer, size) in enumerate(zip(record.streams, subframe))
         ]
         for i, subframe in enumerate(sizes)
@@ -89,7 +92,8 @@ def divided(layers, streams):
     return tuple(tuple(next(streams) for _ in range(count)) for count in layers)
 
 
-# As in tests/sample_captures.py: no frame stands in these, whatever follows. The first is a sync, so a frame before them stands.
+# As in tests/sample_captures.py: no frame stands in these, whatever follows. The first is a sync, so a frame before
+# them stands.
 FALSE_SYNCS = bytes.fromhex("56 E0 00 47 56 E0 04 01 02 03 04 99 99 56 1F 22 56 E0 03 A1 A2 A3 56 C0 10 11")
 
 
@@ -103,7 +107,8 @@ def good_element():
     return sent_element(one(Audio(2, Index(4), 1)), [[5]]).data()
 
 
-# junk; elements to which no held configuration can apply, also after one refused behind its own configuration; a frame of one byte
+# junk; elements to which no held configuration can apply, also after one refused behind its own configuration; a frame
+# of one byte
 junk(bytes.fromhex("00 47 1F 10 FF E0 20") + FALSE_SYNCS + b"\x56")
 refused(bytes.fromhex("80 00"))
 refused(bytes.fromhex("82 AA AA AA AA"))
@@ -229,8 +234,9 @@ for number, layers in enumerate(DIVISIONS):
     sends(record, [0] * count, anew=range(count), size=2)
     applies([(i * i + number) % 7 for i in range(count)])
 
-# configurations that change from stream to stream: one that comes back after another is not that of the stream just before; an index and
-# 24 bits of the same frequency are not equal; useSameConfig across programs; only fill differs, so the configurations are equal
+# configurations that change from stream to stream: one that comes back after another is not that of the stream just
+# before; an index and 24 bits of the same frequency are not equal; useSameConfig across programs; only fill differs, so
+# the configurations are equal
 BACK = Audio(2, Index(6), 1)
 CODED = {
     0: [PLAIN, BACK, PLAIN, PLAIN, BACK, BACK, Audio(2, Hz(48000), 2), PLAIN, PLAIN, Audio(2, Hz(48000), 2)],
@@ -272,13 +278,15 @@ for version, audios in CODED.items():
 for value in (0, 1, 107, 235, 236, 511):
     sends(Mux(((Layer(PLAIN, 1, value),),)), [0])
     applies([0])
-mixed = Mux(((Layer(PLAIN, 1, 3), Layer(PLAIN)), (Layer(BACK, 1, 0),), (Layer(BACK), Layer(PLAIN, 0, 0))), other=12, crc=1)
+beside = ((Layer(PLAIN, 1, 3), Layer(PLAIN)), (Layer(BACK, 1, 0),), (Layer(BACK), Layer(PLAIN, 0, 0)))
+mixed = Mux(beside, other=12, crc=1)
 sends(mixed, [0, 255, 0, 0, 256], anew=(1, 3), groups=2)
 applies([0, 1, 0, 254, 0])
 sends(replace(mixed, version=1, tara=65536), [0, 255, 0, 0, 256], anew=(1, 3), size=4)
 sends(Mux(((Layer(PLAIN, 1, 0),) * 8,) * 2), [0] * 16, anew=range(16))
 
-# the held configuration still applies after refused elements and junk; refused: 3 and 15 behind a configuration, 3 and 15 behind a flag
+# the held configuration still applies after refused elements and junk; refused: 3 and 15 behind a configuration, 3 and
+# 15 behind a flag
 state = Mux(((Layer(PLAIN),), (Layer(BACK, 1, 4), Layer(BACK))), subframes=2, other=9)
 sends(state, [3, 0, 4], [5, 0, 0], anew=(2,), groups=4)
 refused(good_element()[:-1])
@@ -317,7 +325,8 @@ refused(b"\xFF")
 junk(FALSE_SYNCS)
 applies([7, 0, 6], [5, 0, 5])
 
-# frames inside of an element, with a sync behind the first of them, are its bytes and nothing else, whether it is refused or accepted
+# frames inside of an element, with a sync behind the first of them, are its bytes and nothing else, whether it is
+# refused or accepted
 inside = Frame(good_element()).data() * 2
 refused(b"\0" + inside)
 applies([8, 0, 7], [6, 0, 6])
@@ -328,7 +337,8 @@ applies([9])
 
 # 1 to 64 subframes
 for count in (1, 2, 3, 31, 32, 63, 64):
-    record = Mux(((Layer(PLAIN), Layer(BACK, 1, 0)), (Layer(BACK),)) if count < 5 else ((Layer(BACK),),), subframes=count, other=count)
+    programs = ((Layer(PLAIN), Layer(BACK, 1, 0)), (Layer(BACK),)) if count < 5 else ((Layer(BACK),),)
+    record = Mux(programs, subframes=count, other=count)
     sizes = [[(7 * i + 3 * j + count) % 6 for j in range(len(record.streams))] for i in range(count)]
     sends(record, *sizes, anew=(2,))
     sends(replace(record, version=1), *sizes, size=2)
@@ -336,7 +346,8 @@ for count in (1, 2, 3, 31, 32, 63, 64):
 sixteen = Mux(divided([8, 8], [Layer(PLAIN)] * 16), subframes=64)
 sends(sixteen, *[[(5 * i + j) % 11 % 3 for j in range(16)] for i in range(64)], anew=range(1, 16, 2))
 applies(*[[0] * 16] * 64)
-sends(Mux(divided([3, 5], [Layer(PLAIN)] * 8), version=1, subframes=4, crc=3), *[[254, 0, 1, 255, 0, 2, 0, 3]] * 4, anew=(4,), size=3)
+eight = Mux(divided([3, 5], [Layer(PLAIN)] * 8), version=1, subframes=4, crc=3)
+sends(eight, *[[254, 0, 1, 255, 0, 2, 0, 3]] * 4, anew=(4,), size=3)
 
 # a configuration that gets much shorter; elements of 8,191 bytes, one that stays so long and one that gets shorter
 wide = Mux(divided([8, 8], [Layer(Audio(4, Hz(44100), 2, "type 5", Hz(88200)))] * 16), version=1, other=7)

@@ -1,8 +1,8 @@
 #!/usr/bin/env python3
-"""Lays out the sample captures and writes them as samples/NAME.loas, with the listing and the summary that document 01 asks for.
+"""Lays out the sample captures and writes them as samples/NAME.loas, with the listing and the summary that 01 asks for.
 
-Also writes what the programs listing and summary are run on by the gate. Nothing here hunts for a frame or reads an element: which
-frames stand, and what is in them, is known because they were put there.
+Also writes what the programs listing and summary are run on by the gate. Nothing here hunts for a frame or reads an
+element: which frames stand, and what is in them, is known because they were put there.
 """
 import pathlib
 from dataclasses import replace
@@ -64,7 +64,8 @@ def two_programmes():
     b = Mux(((first,), (replace(second, audio=Audio(2, Index(7), 1, "type 5", Index(4))),)))
     yield sent(b, [14, 0])
     yield held(b, [15, 0])
-    # two layers in each program; layer 0 of program 1 is told to be as the stream before it, which is not program 0's first
+    # two layers in each program; layer 0 of program 1 is told to be as the stream before it, which is not program 0's
+    # first
     spoken = Layer(Audio(2, Index(8), 1))
     c = Mux(((first, spoken), (replace(spoken, type=1, value=0), second)))
     yield sent(c, [16, 5, 0, 0])
@@ -96,7 +97,8 @@ def signalling():
     yield sent(one(Audio(2, Index(3), 7)), [5])
     yield sent(one(Audio(2, Hz(48000), 7)), [5])
 
-    # version 1, nothing signalled: no fill; too little fill to be looked at; fill that is looked at and says nothing. One record.
+    # version 1, nothing signalled: no fill; too little fill to be looked at; fill that is looked at and says nothing.
+    # One record.
     plain = v1(Audio(2, Index(5), 2), tara=255)
     yield sent(plain, [6])
     yield sent(plain, [7], tails={0: ((), (15, 0x2B7 << 4 | 2))})
@@ -144,7 +146,8 @@ def subframes():
 
     base = Layer(Audio(2, Index(3), 2))
     more = Layer(Audio(2, Index(6), 1))
-    a = Mux(((base, replace(base, type=1, value=2)), (more, more, replace(more, type=1, value=0))), subframes=4, other=12, crc=0x5A)
+    programs = ((base, replace(base, type=1, value=2)), (more, more, replace(more, type=1, value=0)))
+    a = Mux(programs, subframes=4, other=12, crc=0x5A)
     yield sent(a, *sizes(4, 1, 5))
     yield held(a, *sizes(4, 2, 5))
     yield held(a, *[[0] * 5] * 4)
@@ -201,8 +204,8 @@ def too_long(e, more, held=None):
     return Frame(e.data() + bytes(more), refusal=(15, len(e.bits), e.count), held=held)
 
 
-# No frame stands in these, whatever follows: a sync of L = 0; two at whose end stand other bytes (99 99, and 56 C0); a 56 without the
-# three ones.
+# No frame stands in these, whatever follows: a sync of L = 0; two at whose end stand other bytes (99 99, and 56 C0); a
+# 56 without the three ones.
 FALSE_SYNCS = bytes.fromhex("56 E0 00 47 56 E0 04 01 02 03 04 99 99 56 1F 22 56 E0 03 A1 A2 A3 56 C0 10 11")
 
 
@@ -245,7 +248,8 @@ def damaged():
     yield refused(one(Audio(2, Index(6), 1, "type 5", Index(13))), 9, "frequency index", 1)
     yield refused(v1(Audio(2, Hz(24000), 1, "flag 1", Hz(0))), 9, "frequency", 1)
 
-    # 01's cases of ascLen 36 and 32; the bits after type 31; the first field; and where the element ends as well, 10 comes before 3
+    # 01's cases of ascLen 36 and 32; the bits after type 31; the first field; and where the element ends as well, 10
+    # comes before 3
     yield past_asc_len(Audio(2, Index(6), 1, "flag 1", Index(3)), 36)
     yield past_asc_len(Audio(2, Index(6), 1, "flag 1", Index(3)), 32)
     yield past_asc_len(Audio(), 32, ([(11, 0x2B7), (5, 31), (6, 1)],))
@@ -262,7 +266,8 @@ def damaged():
         yield refused(Mux(((Layer(), Layer(type=type)),)), 13, "frameLengthType", 1)
     yield refused(one(other=5), 14, "otherDataLenEsc", 3, groups=5)
 
-    # cut in StreamMuxConfig, in AudioSpecificConfig, in the lengths, the payload, the other data, the fill, and in a variable value
+    # cut in StreamMuxConfig, in AudioSpecificConfig, in the lengths, the payload, the other data, the fill, and in a
+    # variable value
     whole = sent_element(one(other=300), [[300]])
     yield cut(whole, 1)
     yield cut(whole, 3)
@@ -273,7 +278,8 @@ def damaged():
     yield cut(sent_element(v1(tara=1 << 31), [[9]]), 4)
 
     # at last a configuration; none of the refused ones after it changes what is held
-    good = Mux(((Layer(Audio(2, Index(3), 2)),), (Layer(Audio(2, Index(6), 1, "type 5", Index(3)), 1, 4),)), subframes=2)
+    signalled = Layer(Audio(2, Index(6), 1, "type 5", Index(3)), 1, 4)
+    good = Mux(((Layer(Audio(2, Index(3), 2)),), (signalled,)), subframes=2)
     yield sent(good, [3, 0], [4, 0])
     yield held(good, [5, 0], [6, 0])
     yield cut(held_element(good, [[7, 0], [8, 0]]), -1, good)

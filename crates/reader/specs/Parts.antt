@@ -1,4 +1,5 @@
--- What the functions below `read_prepared` promise: what a walk needs of a configuration, and the answer where one applies.
+-- What the functions below `read_prepared` promise: what a walk needs of a configuration, and the answer where one
+-- applies.
 use mathlib.Core.Bool.{Bool, cond}
 use mathlib.Core.List.{List, _++_, map}
 use Prim.Native.Nat.{ℕ, _+_, _*_, _-_, _≤_, _<_}

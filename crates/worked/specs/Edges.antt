@@ -1,6 +1,6 @@
 -- What is read up to each edge, and refused beyond it, beside the cases that document 01 marks P: so that a bound, a
--- range, a width or a number that is wrong in reader, writer and 16 alike is refused. tests/edge_cases.py lays them out.
--- proofs/Edges.antt has the theorem.
+-- range, a width or a number that is wrong in reader, writer and 16 alike is refused. tests/edge_cases.py lays them
+-- out. proofs/Edges.antt has the theorem.
 use mathlib.Core.Bool.{true}
 use mathlib.Core.List.{List, [], _∷_}
 use Prim.Native.Nat.{ℕ}

@@ -1,7 +1,8 @@
-//! Safe functions over include/schilfauge.h: slices bring their own counts, arrays have their size in the type, and a refusal is an error.
+//! Safe functions over include/schilfauge.h: slices bring their own counts, arrays have their size in the type, and a
+//! refusal is an error.
 
-// The header asks that nothing lent is null, that it is as long as it says, and that what is written overlaps with nothing else lent. Each call
-// below lends whole slices and arrays, none of them twice, so it is sound.
+// The header asks that nothing lent is null, that it is as long as it says, and that what is written overlaps with
+// nothing else lent. Each call below lends whole slices and arrays, none of them twice, so it is sound.
 mod c {
     use super::HELD_WORDS;
 
@@ -153,8 +154,8 @@ impl Held {
             channels,
         })
     }
-    /// Writes one element with the record held: whether to send it, the slots' lengths in payload order, payload, and other data packed
-    /// from the top bit. The bytes of the element, which stand at the start of `out`.
+    /// Writes one element with the record held: whether to send it, the slots' lengths in payload order, payload, and
+    /// other data packed from the top bit. The bytes of the element, which stand at the start of `out`.
     pub fn write(
         &self,
         send: bool,

@@ -114,7 +114,8 @@ fn frames_are_refused() {
     }
 }
 
-const HEADER: &str = "element  program  layer  stream  core type    core Hz  output Hz  SBR            PS             output channels\n";
+const HEADER: &str = "element  program  layer  stream  core type    core Hz  output Hz  \
+                      SBR            PS             output channels\n";
 
 #[test]
 fn a_capture_without_frames() {
@@ -145,7 +146,8 @@ fn refused_elements_are_counted_and_change_nothing() {
       0  refused  4  at bit     0  fields read     1  the held configuration is to apply, and none is held
       1  refused  4  at bit     0  fields read     1  the held configuration is to apply, and none is held
       2        0      0       0  2 AAC LC       48000      48000  not signalled  not signalled                2
-      4  refused  3  at bit     3  fields read     3  the element ends before this field, fill, payload or other data does
+      4  refused  3  at bit     3  fields read     3  the element ends before this field, \
+         fill, payload or other data does
 "
     );
     assert_eq!(summary(&capture, false), expected);

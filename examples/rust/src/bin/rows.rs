@@ -44,7 +44,10 @@ fn main() -> std::io::Result<()> {
         capture.truncate(CAPTURE_BYTES);
     }
 
-    println!("element  program  layer  stream  core type    core Hz  output Hz  SBR            PS             output channels");
+    println!(
+        "element  program  layer  stream  core type    core Hz  output Hz  \
+         SBR            PS             output channels"
+    );
     let (mut held, mut map, mut at, mut number) = (Held::nothing(), vec![0; MAP_WORDS], 0, 0);
     while let Some((element, end)) = hunt(&capture, at) {
         let before = held.clone();
