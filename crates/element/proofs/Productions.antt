@@ -11,12 +11,14 @@ use borrow.Author.Tests.{leb-true, eqb-true, eqb-false, ne-eqb, not-true}
 use Rattle.kernel.specs.declared.Window.the-variants.{Open}
 use Rattle.kernel.specs.Bits.{bitAt, valueAt}
 use Rattle.kernel.specs.Reading.{_>>=_, _>>_, give, field, need, fit, run}
-use Rattle.kernel.specs.Element.{Content, Element, walk}
+use Rattle.kernel.specs.Element.{Content, partItem, Element, Passage, walk}
 use Rattle.kernel.proofs.Values.{value-lt, value-one}
 use Rattle.kernel.proofs.Tests as tests
 use Rattle.kernel.proofs.Tests.{three, neither}
-use Rattle.kernel.proofs.Kept.{chosen, Any, keeps-map, Kept, gives, either, a-field, on, fit-kept, Out, out-fit}
-use Rattle.kernel.proofs.Kept.{KeepsAll, keeps-follow, Come, come-next, come-so, walk-keeps, Told, told-end}
+use Rattle.kernel.proofs.Induction.{by-part}
+use Rattle.kernel.proofs.Kept.{chosen, Any, keeps-map, Kept, gives, either, a-field, on, fit-kept, OutcomeKept, out-fit}
+use Rattle.kernel.proofs.Kept.{Each, KeepsAll, keeps-follow, PassageKept, kept-item, kept-so, walk-keeps, AnswerKept}
+use Rattle.kernel.proofs.Kept.{told-end}
 use Rattle.records.specs.declared.Stream.{Stream}
 use Rattle.records.specs.declared.Record.{Record}
 use Rattle.numbers.proofs.Given.{Numbered}
@@ -122,7 +124,7 @@ abbrev Flagged : Bool → ℕ → Type 0
 Flagged held u = eqb u 1 ≡ true → held ≡ true
 
 flag : (s : List ℕ) (held : Held)
-    → Out (Refuses s held) (Flagged (usable held)) (run s (useSameStreamMux (usable held)) 0 0)
+    → OutcomeKept (Refuses s held) (Flagged (usable held)) (run s (useSameStreamMux (usable held)) 0 0)
 unfolding useSameStreamMux run field need _>>=_ _>>_
 flag s held =
     out-fit (Refuses s held) (Flagged (usable held)) (fit Open (8 * length s) 1) 0 0 _
@@ -133,7 +135,7 @@ flag s held =
     v = valueAt s 0 1
 
     go : (b : Bool) → (eqb v 0 || usable held) ≡ b
-        → Out (Refuses s held) (Flagged (usable held)) (run s (need b 4 1 >> give v) 1 1)
+        → OutcomeKept (Refuses s held) (Flagged (usable held)) (run s (need b 4 1 >> give v) 1 1)
     go true e =
         λ q. let z : v ≡ 1 = eqb-true v 1 q in tests.either (eqb v 0) (usable held) e (ne-eqb v 0 (λ y. omega arith))
     go false e =
@@ -145,24 +147,25 @@ flag s held =
 -- ---- the element
 
 pub walked : (s : List ℕ) (held : Held)
-    → Come (Refuses s held) OfKind (AppliedOk held) (walk s (audioMuxElement held) 0 0)
-unfolding walk audioMuxElement
+    → PassageKept (Refuses s held) OfKind (AppliedOk held) (walk s (audioMuxElement held) 0 0)
+unfolding audioMuxElement Each
 walked s held =
-    come-next (Refuses s held) OfKind (AppliedOk held) (Flagged (usable held)) kindU 0
-    (run s (useSameStreamMux (usable held)) 0 0)
-    (λ u at n. walk s (afterFlag (eqb u 1) (held .config)) at n) refl (flag s held)
-    (λ u at n h.
-    come-so Numbered (Refuses s held) OfKind (AppliedOk held) (walk s (afterFlag (eqb u 1) (held .config)) at n)
-    (behind-flag s held)
+    by-part s 0 0 (PassageKept (Refuses s held) OfKind (AppliedOk held)) kindU (useSameStreamMux (usable held))
+    (λ u. afterFlag (eqb u 1) (held .config))
+    (λ u at n q.
+    let x : Passage Applied = walk s (afterFlag (eqb u 1) (held .config)) at n in
+    kept-item (Refuses s held) OfKind (AppliedOk held) (partItem kindU 0 at) x refl
+    (kept-so Numbered (Refuses s held) OfKind (AppliedOk held) x (behind-flag s held)
     (walk-keeps Numbered OfKind (AppliedOk held) refl refl s (afterFlag (eqb u 1) (held .config)) at n
-    (after-flag held (eqb u 1) h)))
+    (after-flag held (eqb u 1) (rw q at (flag s held))))))
+    (λ r q. (rw q at (flag s held), tt))
 
-pub answered : (s : List ℕ) (held : Held) (room : ℕ) → Told (Refuses s held) (AppliedOk held) (answer s held room)
+pub answered : (s : List ℕ) (held : Held) (room : ℕ) → AnswerKept (Refuses s held) (AppliedOk held) (answer s held room)
 unfolding answer
 answered s held room =
-    chosen (Told (Refuses s held) (AppliedOk held)) (ltb room 4368) _ _
+    chosen (AnswerKept (Refuses s held) (AppliedOk held)) (ltb room 4368) _ _
     (omega arith, omega arith, λ e. absurd (omega arith))
-    (chosen (Told (Refuses s held) (AppliedOk held)) (eqb (length s) 0
+    (chosen (AnswerKept (Refuses s held) (AppliedOk held)) (eqb (length s) 0
     || ltb 8191 (length s)) _ _ (omega arith, omega arith, λ e. absurd (omega arith))
     (told-end (Refuses s held) OfKind (AppliedOk held) (behind-flag s held 15 refl) (8 * length s)
     (walk s (audioMuxElement held) 0 0) (walked s held)))

@@ -17,7 +17,7 @@ use Rattle.kernel.specs.Element.{countOf, placeOf, sumPassed, fell}
 use Rattle.kernel.proofs.Theorems as kernel
 use Rattle.kernel.proofs.Values.{value-one}
 use Rattle.kernel.proofs.Tests.{both, neither}
-use Rattle.kernel.proofs.Kept.{Told}
+use Rattle.kernel.proofs.Kept.{AnswerKept}
 use Rattle.records.specs.declared.Record.{Record}
 use Rattle.records.specs.Blank.{noRecord}
 use Rattle.records.specs.Valid.{validOf}
@@ -135,7 +135,7 @@ stays-if : (held : Held) (t : Bool) (r : Record) → usable held ≡ true → Ap
 stays-if held true r u h = h .valid
 stays-if held false r u h = u
 
-stays : (held : Held) (x : Answer Applied) (R : ℕ → Type 0) → usable held ≡ true → Told R (AppliedOk held) x
+stays : (held : Held) (x : Answer Applied) (R : ℕ → Type 0) → usable held ≡ true → AnswerKept R (AppliedOk held) x
     → usable (heldAfter held x) ≡ true
 stays held (accepted a its n) R u h = stays-if held (a .sent) (a .config) u h
 stays held (rejected r its) R u h = u

@@ -1,12 +1,12 @@
 -- What is shown of the answer and the items of a walk that comes through, step by step.
 use mathlib.Core.Path.{_≡_}
 use mathlib.Core.List.{List, _∷_, _++_}
-use Prim.Native.Nat.{ℕ, _+_, _*_, _-_}
+use Prim.Native.Nat.{ℕ, _+_, _*_}
 use lib.ListN.{length}
-use Rattle.kernel.specs.declared.Window.the-variants.{Open}
-use Rattle.kernel.specs.Reading.{Reading, Outcome, gave, refused, Fit, fits, short, fit, run}
-use Rattle.kernel.specs.Element.{Passing, fields, passed, Item, item, Element, part, over, follow, Passage, came}
-use Rattle.kernel.specs.Element.{fell, withItem, overFit, next, walk, accepted, read}
+use Rattle.kernel.specs.Reading.{Reading, Outcome, gave, refused, run}
+use Rattle.kernel.specs.Element.{Passing, passed, Item, item, partItem, Element, part, over, follow, Passage}
+use Rattle.kernel.specs.Element.{came, fell, withItem, walk, accepted, read}
+use Rattle.kernel.proofs.Induction.{by-part, by-over}
 use Rattle.kernel.proofs.Map.{came-end}
 use Rattle.kernel.proofs.Walk.{under, onward, walk-follow}
 
@@ -43,20 +43,6 @@ module _ {A : Type 0} where
   came-item P it (came a its at n) h = h
   came-item P it (fell r its) h = tt
 
-  came-fit : (P : A → List Item → Type 0) (x : Fit) (at n : ℕ) (y : Passage A) → Came P y → Came P (overFit x at n y)
-  unfolding Came overFit
-  came-fit P fits at n y h = h
-  came-fit P (short m) at n y h = tt
-
-  came-next : {B : Type 0} (P : A → List Item → Type 0) (R : B → Type 0) (kind at : ℕ) (o : Outcome B) (f : B → ℕ → ℕ
-      → Passage A) → Gave R o
-      → ((b : B) (at′ n′ : ℕ) → R b → Came (λ a its. P a (item fields kind 0 at (at′ - at) ∷ its)) (f b at′ n′))
-      → Came P (next kind at o f)
-  unfolding Came Gave next
-  came-next P R kind at (gave b at′ n′) f g h =
-      came-item P (item fields kind 0 at (at′ - at)) (f b at′ n′) (h b at′ n′ g)
-  came-next P R kind at (refused r) f g h = tt
-
 came-under : {A : Type 0} (P : A → List Item → Type 0) (its : List Item) (x : Passage A)
     → Came (λ a js. P a (its ++ js)) x → Came P (under its x)
 unfolding Came under
@@ -75,18 +61,19 @@ module _ (s : List ℕ) {A : Type 0} where
   pub came-over : (P : A → List Item → Type 0) (c : Passing) (kind stream w : ℕ) (e : Element A) (at n : ℕ)
       → Came (λ a its. P a (item (passed c) kind stream at w ∷ its)) (walk s e (at + w) n)
       → Came P (walk s (over c kind stream w e) at n)
-  unfolding walk
+  unfolding Came
   came-over P c kind stream w e at n h =
-      came-fit P (fit Open (8 * length s) (at + w)) at n _
-      (came-item P (item (passed c) kind stream at w) (walk s e (at + w) n) h)
+      by-over s at n (Came P) c kind stream w e (λ l. came-item P _ (walk s e (at + w) n) h) (λ l. tt)
 
   pub came-part : {B : Type 0} (P : A → List Item → Type 0) (R : B → Type 0) (kind : ℕ) (m : Reading B) (f : B
       → Element A) (at n : ℕ)
       → Gave R (run s m at n) → ((b : B) (at′ n′ : ℕ) → R b
-      → Came (λ a its. P a (item fields kind 0 at (at′ - at) ∷ its)) (walk s (f b) at′ n′))
+      → Came (λ a its. P a (partItem kind at at′ ∷ its)) (walk s (f b) at′ n′))
       → Came P (walk s (part B kind m f) at n)
-  unfolding walk
-  came-part P R kind m f at n g h = came-next P R kind at (run s m at n) _ g h
+  unfolding Came Gave
+  came-part P R kind m f at n g h =
+      by-part s at n (Came P) kind m f
+      (λ b at′ n′ q. came-item P _ (walk s (f b) at′ n′) (h b at′ n′ (rw q at g))) (λ r q. tt)
 
   pub came-follow : {B : Type 0} (P : A → List Item → Type 0) (Q : B → List Item → Type 0) (e : Element A) (g : A
       → Element B) (at n : ℕ)

@@ -7,15 +7,14 @@ use Prim.Native.Nat.{ℕ, _+_, _*_, _<_, _^_, min}
 use lib.Dec.{ltb, eqb}
 use lib.ListN.{length}
 use Rattle.kernel.specs.declared.Window.{Window}
-use Rattle.kernel.specs.declared.Window.the-variants.{Open}
 use Rattle.kernel.specs.Bits.{valueAt}
 use Rattle.kernel.specs.Reading.{Reading, give, refuse, refuseAfter, fieldThen, passThen, hereThen, _>>=_, _>>_}
 use Rattle.kernel.specs.Reading.{field, pass, here, choose, need, Outcome, gave, refused, Fit, fits, short}
 use Rattle.kernel.specs.Reading.{passes, fit, onFit, run}
 use Rattle.kernel.specs.Element.{Content, fields, passed, Item, Element, done, part, over, spot, follow}
-use Rattle.kernel.specs.Element.{Passage, came, fell, withItem, overFit, next, walk}
-use Rattle.kernel.specs.Element.{Answer, accepted, rejected, ended, itemsOf}
+use Rattle.kernel.specs.Element.{Passage, came, fell, withItem, walk, Answer, accepted, rejected, ended, itemsOf}
 use Rattle.kernel.proofs.Values.{value-lt}
+use Rattle.kernel.proofs.Induction.{walk-by}
 
 pub chosen : {A : Type 0} (P : A → Type 0) (t : Bool) (a b : A) → P a → P b → P (cond t a b)
 chosen P true a b p q = p
@@ -122,17 +121,17 @@ module _ (R : ℕ → Type 0) where
   fit-kept three ten win bits e = chosen FitKept (passes win e) _ _ ten (chosen FitKept (ltb bits e) _ _ three tt)
 
 module _ {A : Type 0} (R : ℕ → Type 0) (P : A → Type 0) where
-  abbrev pub Out : Outcome A → Type 0
-  Out (gave a at n) = P a
-  Out (refused r) = R (r .refusal .number)
+  abbrev pub OutcomeKept : Outcome A → Type 0
+  OutcomeKept (gave a at n) = P a
+  OutcomeKept (refused r) = R (r .refusal .number)
 
-  pub out-fit : (x : Fit) (at n : ℕ) (o : Outcome A) → FitKept R x → Out o → Out (onFit x at n o)
+  pub out-fit : (x : Fit) (at n : ℕ) (o : Outcome A) → FitKept R x → OutcomeKept o → OutcomeKept (onFit x at n o)
   unfolding onFit
   out-fit fits at n o f p = p
   out-fit (short m) at n o f p = f
 
   module _ (three : R 3) (ten : R 10) (s : List ℕ) where
-    run-keeps : (m : Reading A) (at n : ℕ) → Keeps R P m → Out (run s m at n)
+    run-keeps : (m : Reading A) (at n : ℕ) → Keeps R P m → OutcomeKept (run s m at n)
     unfolding Keeps run
     run-keeps (give a) at n p = p
     run-keeps (refuse m b) at n p = p
@@ -146,7 +145,7 @@ module _ {A : Type 0} (R : ℕ → Type 0) (P : A → Type 0) where
         (run-keeps k (at + w) n p)
     run-keeps (hereThen k) at n p = run-keeps (k at) at n (p at)
 
-    pub run-kept : {m : Reading A} (at n : ℕ) → Kept R P m → Out (run s m at n)
+    pub run-kept : {m : Reading A} (at n : ℕ) → Kept R P m → OutcomeKept (run s m at n)
     run-kept {m} at n p = run-keeps m at n (p .is)
 
 -- ---- elements
@@ -177,55 +176,44 @@ module _ {A B : Type 0} (R : ℕ → Type 0) (J : Content → ℕ → Type 0) (P
   keeps-follow (spot f) g p q = λ v. keeps-follow (f v) g (p v) q
 
 -- an answer
-abbrev pub Told : {A : Type 0} → (ℕ → Type 0) → (A → Type 0) → Answer A → Type 0
-Told R P (accepted a its n) = P a
-Told R P (rejected r its) = R (r .refusal .number)
+abbrev pub AnswerKept : {A : Type 0} → (ℕ → Type 0) → (A → Type 0) → Answer A → Type 0
+AnswerKept R P (accepted a its n) = P a
+AnswerKept R P (rejected r its) = R (r .refusal .number)
 
 module _ {A : Type 0} (R : ℕ → Type 0) (J : Content → ℕ → Type 0) (P : A → Type 0) where
-  abbrev pub Come : Passage A → Type 0
-  Come (came a its at n) = P a × Each J its
-  Come (fell r its) = R (r .refusal .number) × Each J its
+  abbrev pub PassageKept : Passage A → Type 0
+  PassageKept (came a its at n) = P a × Each J its
+  PassageKept (fell r its) = R (r .refusal .number) × Each J its
 
-  come-item : (it : Item) (x : Passage A) → J (it .content) (it .kind) → Come x → Come (withItem it x)
+  pub kept-item : (it : Item) (x : Passage A) → J (it .content) (it .kind) → PassageKept x → PassageKept (withItem it x)
   unfolding withItem Each
-  come-item it (came a its at n) j p = (p .0, (j, p .1))
-  come-item it (fell r its) j p = (p .0, (j, p .1))
-
-  come-fit : (x : Fit) (at n : ℕ) (o : Passage A) → FitKept R x → Come o → Come (overFit x at n o)
-  unfolding overFit Each
-  come-fit fits at n o f p = p
-  come-fit (short m) at n o f p = (f, tt)
-
-  pub come-next : {B : Type 0} (Q : B → Type 0) (kind at : ℕ) (o : Outcome B) (f : B → ℕ → ℕ → Passage A)
-      → J fields kind → Out R Q o → ((b : B) (at′ n′ : ℕ) → Q b → Come (f b at′ n′)) → Come (next kind at o f)
-  unfolding next Each
-  come-next Q kind at (gave b at′ n′) f j p q = come-item _ (f b at′ n′) j (q b at′ n′ p)
-  come-next Q kind at (refused r) f j p q = (p, tt)
+  kept-item it (came a its at n) j p = (p .0, (j, p .1))
+  kept-item it (fell r its) j p = (p .0, (j, p .1))
 
   module _ (three : R 3) (ten : R 10) (s : List ℕ) where
-    pub walk-keeps : (e : Element A) (at n : ℕ) → KeepsAll R J P e → Come (walk s e at n)
-    unfolding KeepsAll walk Each
-    walk-keeps (done a) at n p = (p, tt)
-    walk-keeps (part B kind m f) at n p =
-        come-next (λ b. KeepsAll R J P (f b)) kind at (run s m at n) (λ b at′ n′. walk s (f b) at′ n′) (p .0)
-        (run-keeps R (λ b. KeepsAll R J P (f b)) three ten s m at n (p .1))
-        (λ b at′ n′ h. walk-keeps (f b) at′ n′ h)
-    walk-keeps (over c kind stream w e) at n p =
-        come-fit (fit Open (8 * length s) (at + w)) at n _ (fit-kept R three ten Open (8 * length s) (at + w))
-        (come-item _ (walk s e (at + w) n) (p .0) (walk-keeps e (at + w) n (p .1)))
-    walk-keeps (spot f) at n p = walk-keeps (f at) at n (p at)
+    pub walk-keeps : (e : Element A) (at n : ℕ) → KeepsAll R J P e → PassageKept (walk s e at n)
+    unfolding KeepsAll Each
+    walk-keeps = walk-by s (λ e at n x. KeepsAll R J P e → PassageKept x) (record {
+      on-done = λ a at n p. (p, tt);
+      on-gave = λ kind m f at n b at′ n′ q again p.
+          kept-item _ (walk s (f b) at′ n′) (p .0) (again (rw q at (run-keeps R _ three ten s m at n (p .1))));
+      on-refused = λ kind m f at n r q p. (rw q at (run-keeps R _ three ten s m at n (p .1)), tt);
+      on-over = λ c kind stream w e at n l again p. kept-item _ (walk s e (at + w) n) (p .0) (again (p .1));
+      on-short = λ c kind stream w e at n l p. (three, tt);
+      on-spot = λ f at n again p. again (p at);
+    })
 
-  pub told-end : R 15 → (bits : ℕ) (x : Passage A) → Come x → Told R P (ended bits x)
-  told-end fifteen bits (came a its at n) p = chosen (Told R P) (eqb at bits) _ _ (p .0) fifteen
+  pub told-end : R 15 → (bits : ℕ) (x : Passage A) → PassageKept x → AnswerKept R P (ended bits x)
+  told-end fifteen bits (came a its at n) p = chosen (AnswerKept R P) (eqb at bits) _ _ (p .0) fifteen
   told-end fifteen bits (fell r its) p = p .0
 
-  pub each-end : (bits : ℕ) (x : Passage A) → Come x → Each J (itemsOf (ended bits x))
+  pub each-end : (bits : ℕ) (x : Passage A) → PassageKept x → Each J (itemsOf (ended bits x))
   each-end bits (came a its at n) p = chosen (λ x. Each J (itemsOf x)) (eqb at bits) _ _ (p .1) (p .1)
   each-end bits (fell r its) p = p .1
 
 -- what follows from R of every refusal
-pub come-so : {A : Type 0} (R S : ℕ → Type 0) (J : Content → ℕ → Type 0) (P : A → Type 0) (x : Passage A)
-    → ((m : ℕ) → R m → S m) → Come R J P x
-    → Come S J P x
-come-so R S J P (came a its at n) f p = p
-come-so R S J P (fell r its) f p = (f (r .refusal .number) (p .0), p .1)
+pub kept-so : {A : Type 0} (R S : ℕ → Type 0) (J : Content → ℕ → Type 0) (P : A → Type 0) (x : Passage A)
+    → ((m : ℕ) → R m → S m) → PassageKept R J P x
+    → PassageKept S J P x
+kept-so R S J P (came a its at n) f p = p
+kept-so R S J P (fell r its) f p = (f (r .refusal .number) (p .0), p .1)

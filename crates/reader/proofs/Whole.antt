@@ -16,6 +16,7 @@ use Rattle.kernel.specs.Element.{accepted, rejected, ended}
 use Rattle.kernel.proofs.Chain.{Comes, apart, gave-told, on, off, holds, fails, gives, steady}
 use Rattle.kernel.proofs.Run.{run-forward}
 use Rattle.kernel.proofs.Kept.{run-kept}
+use Rattle.kernel.proofs.Induction.{by-part}
 use Rattle.kernel.proofs.Walk.{under, onward, walk-follow, walk-gave}
 use Rattle.records.specs.declared.Record.{Record}
 use Rattle.records.specs.Table.{tableOf}
@@ -196,17 +197,14 @@ module _ (s : List ℕ) (held : Held) where
   pub flag-refused : (p : Prepared) (map : List ℕ) (table : List (List ℕ)) (x : Refusal)
       → told (run s (useSameStreamMux (usable held)) 0 0) ≡ refusal x
       → Unchanged x p map table (read s (audioMuxElement held))
-  unfolding audioMuxElement walk next
-  flag-refused p map table x = go (run s (useSameStreamMux (usable held)) 0 0)
-    where
-      all : Outcome ℕ → Answer Applied
-      all o = ended (8 * length s) (next kindU 0 o (λ u at′ n′. walk s (afterFlag (eqb u 1) (held .config)) at′ n′))
-
-      go : (o : Outcome ℕ) → told o ≡ refusal x → Unchanged x p map table (all o)
-      go (gave u at′ n′) e = absurd (apart (sym e))
-      go (refused r) e =
-          let q : x ≡ r .refusal = cc in
-          (ap (λ (z : Refusal). unsent (Refused z) p) q, refl, refl)
+  unfolding audioMuxElement
+  flag-refused p map table x e =
+      by-part s 0 0 (λ y. Unchanged x p map table (ended (8 * length s) y)) kindU (useSameStreamMux (usable held))
+      (λ u. afterFlag (eqb u 1) (held .config)) (λ u at n q. absurd (apart (sym (rw q at e))))
+      (λ r q.
+      let y = rw q at e in
+      let z : x ≡ r .refusal = cc in
+      (ap (λ (z : Refusal). unsent (Refused z) p) z, refl, refl))
 
   pub flag-sent : (at n : ℕ) → at ≡ 1 → told (run s (useSameStreamMux (usable held)) 0 0) ≡ value 0 at n
       → read s (audioMuxElement held) ≡ sentOf s at n

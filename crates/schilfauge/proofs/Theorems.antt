@@ -13,7 +13,7 @@ use Rattle.element.specs.Mux.{Applied}
 use Rattle.element.specs.Reply.{replyWith}
 use Rattle.writer.specs.Write.{writtenOf}
 use Rattle.schilfauge.specs.Lent.{heldIn, heldWords, answerIn, heldAfter, rowAt}
-use Rattle.kernel.proofs.Kept.{Told}
+use Rattle.kernel.proofs.Kept.{AnswerKept}
 use Rattle.element.proofs.Productions.{Applies, AppliedOk, Refuses, answered}
 use Rattle.element.proofs.Theorems as element
 use Rattle.schilfauge.specs.Claims.{LaidIsHeld, NextFindsHeld, RefusedIs20, RefusedIs1To15, RefusedIs16To19}
@@ -36,7 +36,7 @@ held-next : (t : Bool) (w : List ℕ) (r : Record) → Applies (heldIn w) t r
 held-next true w r h = held-laid r (h .layers) (h .streams)
 held-next false w r h = refl
 
-next-held : (w : List ℕ) (R : ℕ → Type 0) (x : Answer Applied) → Told R (AppliedOk (heldIn w)) x
+next-held : (w : List ℕ) (R : ℕ → Type 0) (x : Answer Applied) → AnswerKept R (AppliedOk (heldIn w)) x
     → heldIn (heldAfter w x) ≡ replyWith (heldIn w) x .held
 next-held w R (accepted a items n) h = held-next (a .sent) w (a .config) h
 next-held w R (rejected r items) h = refl

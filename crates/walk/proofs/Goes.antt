@@ -7,15 +7,17 @@ use native.Mathlib.Nat.{add-zero}
 use native.Mathlib.Omega.{arith}
 use lib.ListN.{length, getD, drop, take, length-append, length-take, drop-of-length-le}
 use lib.Seq.{sets}
+use borrow.Author.Tests.{lt-ltb, le-ltb}
 use Rattle.kernel.specs.declared.Refusal.{Refusal}
 use Rattle.kernel.specs.declared.Window.the-variants.{Open}
-use Rattle.kernel.specs.Reading.{Reading, Outcome, gave, refused, pass, Fit, fits, short, fit, onFit, run, Stands}
+use Rattle.kernel.specs.Reading.{Reading, gave, pass, Fit, fits, short, fit, onFit, run, Stands}
 use Rattle.kernel.specs.Answer.{Told, value, refusal, told}
-use Rattle.kernel.specs.Element.{Passing, closed, fields, passed, Item, item, Element, done, part, over, spot, follow}
-use Rattle.kernel.specs.Element.{Passage, came, fell, withItem, overFit, next, walk}
+use Rattle.kernel.specs.Element.{Passing, closed, passed, Item, item, partItem, Element, done, part, over, spot, follow}
+use Rattle.kernel.specs.Element.{Passage, came, fell, withItem, walk}
 use Rattle.kernel.proofs.Chain.{Comes, apart, gave-told}
 use Rattle.kernel.proofs.Lists.{sets-append}
-use Rattle.kernel.proofs.Walk.{under, onward, walk-follow, walk-over, walk-gave, walk-part}
+use Rattle.kernel.proofs.Induction.{by-part, by-over}
+use Rattle.kernel.proofs.Walk.{under, onward, walk-follow, walk-over, walk-gave}
 use Rattle.kernel.proofs.Map.{Good, good}
 use Rattle.kernel.proofs.Run.{fit-inside, run-forward}
 use Rattle.element.specs.Mux.{kindP, passOver, payloadMux, subframe, subframes}
@@ -54,12 +56,9 @@ unfolding withItem
 made-more it (came a its at n) = refl
 made-more it (fell r its) = refl
 
-next-stop : {A B : Type 0} (kind at k : ℕ) (y : Outcome B) (f : B → ℕ → ℕ → Passage A) {x : Refusal}
-    → told y ≡ refusal x
-    → (toldPassage k (next kind at y f) ≡ refusal x) × (made (next kind at y f) ≡ [])
-unfolding next
-next-stop kind at k (gave b at′ n′) f e = absurd (apart (sym e))
-next-stop kind at k (refused r) f e = (cc, refl)
+-- a walk that refuses with no item made
+abbrev Stops : {A : Type 0} → ℕ → Refusal → Passage A → Type 0
+Stops k x y = (toldPassage k y ≡ refusal x) × (made y ≡ [])
 
 module _ {A : Type 0} {s : List ℕ} {at n k : ℕ} {store : Bool} {map : List ℕ} {o : Told ℕ} {out : List ℕ} where
   -- an item, and the walk of what follows it
@@ -94,17 +93,18 @@ module _ {A : Type 0} {s : List ℕ} {at n k : ℕ} {store : Bool} {map : List �
   pub goes-part : {B : Type 0} (kind : ℕ) (m : Reading B) (f : B → Element A) {b : B} {at′ n′ : ℕ}
       → Comes s m at n (value b at′ n′)
       → Goes s (part B kind m f) at n k store map o out
-      → Goes s (f b) at′ n′ (k + 1) store (storedIf store map k (item fields kind 0 at (at′ - at) ∷ [])) o out
+      → Goes s (f b) at′ n′ (k + 1) store (storedIf store map k (partItem kind at at′ ∷ [])) o out
   goes-part kind m f {b} {at′} {n′} e g =
-      turn (item fields kind 0 at (at′ - at)) (f b) _ at′ n′
+      turn (partItem kind at at′) (f b) _ at′ n′
       (walk-gave s at n kind m f b at′ n′ (gave-told (run s m at n) (e .is))) g
 
   pub goes-stop : {B : Type 0} (kind : ℕ) (m : Reading B) (f : B → Element A) {x : Refusal} → Comes s m at n (refusal x)
       → Goes s (part B kind m f) at n k store map o out → (refusal x ≡ o) × (map ≡ out)
-  goes-stop kind m f e g =
-      let q = next-stop kind at k (run s m at n) (λ b at′ n′. walk s (f b) at′ n′) (e .is) in
-      halt _ (next kind at (run s m at n) (λ b at′ n′. walk s (f b) at′ n′)) _ (walk-part s at n kind m f) (q .0)
-      (q .1) g
+  goes-stop kind m f {x} e g =
+      let q : Stops k x (walk s (part _ kind m f) at n) =
+      by-part s at n (Stops k x) kind m f (λ b at′ n′ r. absurd (apart (sym (rw r at (e .is)))))
+      (λ z r. let y = rw r at (e .is) in (cc, refl)) in
+      halt _ _ _ refl (q .0) (q .1) g
 
 -- ---- one element after another
 
@@ -198,17 +198,13 @@ module _ {s : List ℕ} {at n : ℕ} (w : ℕ) where
 module _ {A : Type 0} {s : List ℕ} {at n k : ℕ} {store : Bool} {map : List ℕ} (x : Passing) (kind stream w : ℕ) where
   pub over-short : (e : Element A) {z : Refusal} → Comes s (pass Open w) at n (refusal z)
       → Goes s (over x kind stream w e) at n k store map (refusal z) map
-  unfolding pass run onFit walk overFit
+  unfolding pass run onFit fit
   over-short e {z} c =
-      let q =
-      go (fit Open (8 * length s) (at + w)) (withItem (item (passed x) kind stream at w) (walk s e (at + w) n))
-      (c .is) in
+      let q : Stops k z (walk s (over x kind stream w e) at n) =
+      by-over s at n (Stops k z) x kind stream w e
+      (λ l. absurd (apart (sym (rw (le-ltb (8 * length s) (at + w) l) at (c .is)))))
+      (λ l. let y = rw (lt-ltb (8 * length s) (at + w) l) at (c .is) in (cc, refl)) in
       record { told = q .0; stored = ap (storedIf store map k) (q .1) ∙ stored-none store map k }
-    where
-      go : (f : Fit) (y : Passage A) → told {A = Unit {0}} (onFit f at n (gave tt (at + w) n)) ≡ refusal z
-          → (toldPassage k (overFit f at n y) ≡ refusal z) × (made (overFit f at n y) ≡ [])
-      go fits y h = absurd (apart (sym h))
-      go (short m) y h = (cc, refl)
 
   pub over-is : (a : A) {u : Unit {0}} {at′ n′ : ℕ} {map′ : List ℕ} → Comes s (pass Open w) at n (value u at′ n′)
       → map′ ≡ cond store (sets map (4 * k) (kind ∷ stream ∷ at ∷ w ∷ [])) map
