@@ -5,11 +5,11 @@ use Prim.Native.Nat.{ℕ}
 use denote.Ref.{now}
 use Rattle.kernel.specs.Promises.{AllowsOne, AllowsOneOutcome}
 use Rattle.capture.specs.Frames.{OfPoint}
-use Rattle.capture.proofs.Theorems.{advanced-once, holding-once}
+use Rattle.capture.proofs.Theorems.{advanced-once}
 use Rattle.capture.proofs.start.Reads as start
 use Rattle.capture.proofs.start_holding.Reads as start-holding
 use Rattle.capture.proofs.advance.Reads as advance
-use Rattle.capture.proofs.advance_holding.Reads as advance-holding
+use Rattle.capture.proofs.holding_behind.Reads as holding-behind
 use Rattle.capture.proofs.block_room.Reads as block-room
 
 pub start-allows-one : AllowsOne start.Learnt (λ k r e. r)
@@ -26,11 +26,8 @@ advance-allows-one k a x y e f p q =
     (q .1) in
     (s .0, λ i. (s .1 i, s .2 i))
 
-pub advance-holding-allows-one : AllowsOneOutcome advance-holding.Learnt {X = List ℕ × List (List ℕ)}
-    (λ k e. (now (e .1 .1 .0), now (e .1 .1 .1 .0)))
-advance-holding-allows-one k a x y e f p q =
-    let s = holding-once (now (a .0)) (a .1 .0) (now (a .1 .1 .0)) _ _ (now (a .1 .1 .1 .0)) _ _ x y p q in
-    (s .0, λ i. (s .1 i, s .2 i))
+pub holding-behind-allows-one : AllowsOne holding-behind.Learnt (λ k r e. r)
+holding-behind-allows-one k a x y e f p q = p ∙ sym q
 
 pub block-room-allows-one : AllowsOne block-room.Learnt (λ k r e. r)
 block-room-allows-one k a x y e f p q = p ∙ sym q

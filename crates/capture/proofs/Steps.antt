@@ -26,11 +26,10 @@ use Rattle.capture.specs.declared.Holding.{Holding}
 use Rattle.capture.specs.declared.Found.{Found}
 use Rattle.capture.specs.declared.Found.the-variants.{Frame, End}
 use Rattle.capture.specs.declared.Step.{Step}
-use Rattle.capture.specs.declared.HoldingStep.{HoldingStep}
 use Rattle.capture.specs.Frames.{Point, Seen, Next, frame, none, behind, seenAt, nextBy, nextOf, markOf, holdingOf}
-use Rattle.capture.specs.Frames.{pointOf, foundBy, sentIn, pointThen, heldFrom, stepOf, holdingStepOf, mapBy}
-use Rattle.capture.specs.Frames.{tableBy, Whole}
-use Rattle.capture.specs.Promises.{AdvancePromise, HoldingPromise}
+use Rattle.capture.specs.Frames.{pointOf, Whole, foundBy, sentIn, pointThen, heldFrom, stepOf, holdingBehind}
+use Rattle.capture.specs.Frames.{mapBy, tableBy}
+use Rattle.capture.specs.Promises.{AdvancePromise}
 use Rattle.capture.proofs.Frames.{OfNext, next-inside}
 
 -- the step to a frame with this reply to its element
@@ -43,6 +42,9 @@ stepWith from p n r = record {
 
 pub held-at : (c : Point) {from : Mark} → from ≡ markOf c → from .prepared ≡ preparedOf (c .held)
 held-at c mark = ap (λ (m : Mark). m .prepared) mark
+
+pub whole-mark : (h : Holding) → Whole h → h .mark ≡ markOf (pointOf h)
+whole-mark h w = ap (λ (z : Holding). z .mark) w
 
 module _ (s : List ℕ) (room : ℕ) (c : Point) {from : Mark} (mark : from ≡ markOf c) where
   hunted-from : {h : Hunted} → huntOf s (from .at) ≡ h → huntOf s (c .at) ≡ h
@@ -75,23 +77,17 @@ module _ (s : List ℕ) (room : ℕ) (c : Point) {from : Mark} (mark : from ≡ 
         let k = rw (at, mark) at l in
         rw (next-found, mark) (ap (stepWith (markOf c) p n) (k .0) ∙ step-seen, k .1, k .2)
 
--- which frame a step took, that keeps N of where the capture is come to
-pub record Took {N : Type 0} (of : Point → N) (s : List ℕ) (room : ℕ) (c : Point) (map map′ : List ℕ)
-    (table table′ : List (List ℕ)) (v : Verdict) (next : N) : Type 0 where
+-- which frame a step took
+pub record Took (s : List ℕ) (room : ℕ) (c : Point) (map map′ : List ℕ) (table table′ : List (List ℕ)) (v : Verdict)
+    (r : Step) : Type 0 where
   pub seen : Seen
   pub is : nextOf s room c ≡ frame seen
   pub number : seen .number ≡ c .number
   pub before : seen .before ≡ c .held
   pub verdict : v ≡ verdictOf (seen .reading)
-  pub then : next ≡ of (behind seen)
+  pub step : r ≡ stepOf c (frame seen)
   pub map-after : map′ ≡ mapAfter map (seen .reading)
   pub table-after : table′ ≡ tableAfter table (seen .reading)
-
--- so it has come further
-pub took-further : {N : Type 0} {of : Point → N} (s : List ℕ) (room : ℕ) (c : Point) {map map′ : List ℕ}
-    {table table′ : List (List ℕ)} {v : Verdict} {next : N} (t : Took of s room c map map′ table table′ v next)
-    → (c .at < behind (t .seen) .at) × (behind (t .seen) .at ≤ length s)
-took-further s room c t = let i = next-inside s room c (t .seen) (t .is) in (omega (arith, i .0, i .1), i .2)
 
 verdictIn : Found → Verdict
 verdictIn (Frame p n v) = v
@@ -112,82 +108,74 @@ of-place s room c (hunted.Refused x) = tt
 next-from : (s : List ℕ) (room : ℕ) (c : Point) → OfNext (From c) (nextOf s room c)
 next-from s room c = of-place s room c (huntOf s (c .at))
 
-held-behind : (c : Point) (x : Next) → OfNext (From c) x → heldFrom (c .held) (foundBy x) (sentIn x) ≡ pointThen c x .held
-held-behind c (frame m) w = rw (w .1) (held-is-told (c .held) (m .reading))
-held-behind c none w = refl
-
--- what is held follows the mark
-pub holding-is : (s : List ℕ) (room : ℕ) (c : Point) {r : Step} {held : Held} → let x = nextOf s room c in
-    r ≡ stepOf c x → held ≡ heldFrom (c .held) (r .found) (r .sent)
-    → record { found = r .found; next = record { mark = r .next; held = held } } ≡ holdingStepOf c x
-holding-is s room c e h =
-    let x = nextOf s room c in
-    rw (h, e)
-    (ap (λ (z : Held). record { found = foundBy x; next = record { mark = markOf (pointThen c x); held = z } })
-    (held-behind c x (next-from s room c)))
-
-module _ {N : Type 0} {of : Point → N} (s : List ℕ) (room : ℕ) (c : Point) (map : List ℕ) (table : List (List ℕ))
-    {found : Found} {next : N} {map′ : List ℕ} {table′ : List (List ℕ)} where
-  took-by : (x : Next) → nextOf s room c ≡ x → found ≡ foundBy x → next ≡ of (pointThen c x)
+module _ (s : List ℕ) (room : ℕ) (c : Point) (map : List ℕ) (table : List (List ℕ)) {r : Step} where
+  took-by : {map′ : List ℕ} {table′ : List (List ℕ)} (x : Next) → nextOf s room c ≡ x → r ≡ stepOf c x
       → map′ ≡ mapBy map x → table′ ≡ tableBy table x
-      → (p n : ℕ) (v : Verdict) → found ≡ Frame p n v → Took of s room c map map′ table table′ v next
+      → (p n : ℕ) (v : Verdict) → r .found ≡ Frame p n v → Took s room c map map′ table table′ v r
   unfolding verdictIn isFrame
-  took-by (frame m) q e t f g p n v h =
+  took-by (frame m) q e f g p n v h =
       let w = subst (OfNext (From c)) q (next-from s room c) in
       record {
         seen = m;
         is = q;
         number = w .0;
         before = w .1;
-        verdict = sym (ap verdictIn h) ∙ ap verdictIn e;
-        then = t;
+        verdict = sym (ap verdictIn h) ∙ ap (λ (y : Step). verdictIn (y .found)) e;
+        step = e;
         map-after = f;
         table-after = g;
       }
-  took-by none q e t f g p n v h =
-      absurd (let z : _≡_ {A = ℕ} 0 1 = sym (ap isFrame e) ∙ ap isFrame h in omega arith)
+  took-by none q e f g p n v h =
+      absurd (let z : _≡_ {A = ℕ} 0 1 = sym (ap (λ (y : Step). isFrame (y .found)) e) ∙ ap isFrame h in omega arith)
 
-none-by : {found : Found} (x : Next) → found ≡ foundBy x → found ≡ End → x ≡ none
-unfolding isFrame
-none-by (frame m) e h = absurd (let z : _≡_ {A = ℕ} 1 0 = sym (ap isFrame e) ∙ ap isFrame h in omega arith)
-none-by none e h = refl
+  none-by : (x : Next) → nextOf s room c ≡ x → r ≡ stepOf c x → r .found ≡ End → nextOf s room c ≡ none
+  unfolding isFrame
+  none-by (frame m) q e h =
+      absurd (let z : _≡_ {A = ℕ} 1 0 = sym (ap (λ (y : Step). isFrame (y .found)) e) ∙ ap isFrame h in omega arith)
+  none-by none q e h = q
 
--- a frame was taken, or there was none: of a mark,
-module _ (s : List ℕ) (room : ℕ) (c : Point) (map : List ℕ) (table : List (List ℕ)) {r : Step} {from : Mark}
-    (mark : from ≡ markOf c) {map′ : List ℕ} {table′ : List (List ℕ)}
-    (a : AdvancePromise s from map table r map′ table′) (l : length map ≡ room) where
-  pub took : (p n : ℕ) (v : Verdict) → r .found ≡ Frame p n v → Took markOf s room c map map′ table table′ v (r .next)
-  took p n v h =
-      let b = rw l at (a c mark) in
-      took-by s room c map table (nextOf s room c) refl (ap (λ (y : Step). y .found) (b .0))
-      (ap (λ (y : Step). y .next) (b .0)) (b .1) (b .2) p n v h
+  module _ {from : Mark} (mark : from ≡ markOf c) {map′ : List ℕ} {table′ : List (List ℕ)}
+      (a : AdvancePromise s from map table r map′ table′) (l : length map ≡ room) where
+    -- a frame was taken,
+    pub took : (p n : ℕ) (v : Verdict) → r .found ≡ Frame p n v → Took s room c map map′ table table′ v r
+    took p n v h = let b = rw l at (a c mark) in took-by (nextOf s room c) refl (b .0) (b .1) (b .2) p n v h
 
-  pub took-none : r .found ≡ End → nextOf s room c ≡ none
-  took-none h =
-      let b = rw l at (a c mark) in
-      none-by (nextOf s room c) (ap (λ (y : Step). y .found) (b .0)) h
+    -- or there was none
+    pub took-none : r .found ≡ End → nextOf s room c ≡ none
+    took-none h = let b = rw l at (a c mark) in none-by (nextOf s room c) refl (b .0) h
 
--- and of what is held itself
-module _ (s : List ℕ) (room : ℕ) (from : Holding) (map : List ℕ) (table : List (List ℕ)) {r : HoldingStep}
-    {map′ : List ℕ} {table′ : List (List ℕ)} (a : HoldingPromise s from map table r map′ table′)
-    (l : length map ≡ room) where
-  pub took-holding : (p n : ℕ) (v : Verdict) → r .found ≡ Frame p n v
-      → Took holdingOf s room (pointOf from) map map′ table table′ v (r .next)
-  took-holding p n v h =
-      let b = rw l at a in
-      took-by s room (pointOf from) map table (nextOf s room (pointOf from)) refl
-      (ap (λ (y : HoldingStep). y .found) (b .0)) (ap (λ (y : HoldingStep). y .next) (b .0)) (b .1) (b .2) p n v h
+-- what is held follows the mark
+held-behind : (c : Point) (x : Next) → OfNext (From c) x → heldFrom (c .held) (foundBy x) (sentIn x) ≡ pointThen c x .held
+held-behind c (frame m) w = rw (w .1) (held-is-told (c .held) (m .reading))
+held-behind c none w = refl
 
-  pub took-none-holding : r .found ≡ End → nextOf s room (pointOf from) ≡ none
-  took-none-holding h =
-      let b = rw l at a in
-      none-by (nextOf s room (pointOf from)) (ap (λ (y : HoldingStep). y .found) (b .0)) h
+pub held-follows : (s : List ℕ) (room : ℕ) (c : Point) → let x = nextOf s room c in
+    holdingBehind (holdingOf c) (stepOf c x) ≡ holdingOf (pointThen c x)
+held-follows s room c =
+    let x = nextOf s room c in
+    ap (λ (h : Held). record { mark = markOf (pointThen c x); held = h }) (held-behind c x (next-from s room c))
 
--- what is kept of the point behind the frame leads back to it
+-- behind the frame that a step took
 module _ {s : List ℕ} {room : ℕ} {c : Point} {map map′ : List ℕ} {table table′ : List (List ℕ)} {v : Verdict}
-    {next : Holding} (t : Took holdingOf s room c map map′ table table′ v next) where
-  pub whole-then : Whole next
-  whole-then = rw (t .then)
+    {r : Step} (t : Took s room c map map′ table table′ v r) where
+  -- the capture is come further,
+  pub took-further : (c .at < r .next .at) × (r .next .at ≤ length s)
+  took-further =
+      let i = next-inside s room c (t .seen) (t .is) in rw (t .step) (omega (arith, i .0, i .1), i .2)
 
-  pub point-then : pointOf next ≡ behind (t .seen)
-  point-then = ap pointOf (t .then)
+  pub mark-then : r .next ≡ markOf (behind (t .seen))
+  mark-then = ap (λ (y : Step). y .next) (t .step)
+
+  -- and what is kept with what is held leads to the point there
+  module _ (from : Holding) (e : from .held ≡ c .held) {h : Holding} (b : h ≡ holdingBehind from r) where
+    holding-then : h ≡ holdingOf (behind (t .seen))
+    holding-then =
+        b ∙ rw (t .step, e)
+        (ap (λ (z : Held). record { mark = markOf (behind (t .seen)); held = z })
+        (held-behind c (frame (t .seen)) (t .number, t .before)))
+
+    pub whole-then : Whole h
+    whole-then = rw holding-then
+
+    pub point-then : pointOf h ≡ behind (t .seen)
+    point-then = ap pointOf holding-then

@@ -4,8 +4,9 @@ use native.Mathlib.Omega.{arith}
 use lib.ListN.{length}
 use Rattle.capture.specs.Frames.{start}
 use Rattle.capture.specs.Claims.{FramesAreAll, NextIsInside, SittingsAreOne, NumbersInOrder, BlocksAreWhole}
-use Rattle.capture.specs.Claims.{AdvancedOnce, HoldingOnce}
+use Rattle.capture.specs.Claims.{AdvancedOnce, HoldingFollows}
 use Rattle.capture.proofs.Frames.{all-frames, next-inside, sittings, numbered}
+use Rattle.capture.proofs.Steps.{held-follows}
 use Rattle.capture.proofs.Blocks.{whole}
 
 pub frames-are-all : FramesAreAll
@@ -29,6 +30,5 @@ advanced-once s mark map map₁ map₂ table table₁ table₂ x y o p q =
     let b = q (o .point) (o .is) in
     (a .0 ∙ sym (b .0), a .1 ∙ sym (b .1), a .2 ∙ sym (b .2))
 
-pub holding-once : HoldingOnce
-holding-once s from map map₁ map₂ table table₁ table₂ x y p q =
-    (p .0 ∙ sym (q .0), p .1 ∙ sym (q .1), p .2 ∙ sym (q .2))
+pub holding-follows : HoldingFollows
+holding-follows = held-follows

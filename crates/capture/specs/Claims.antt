@@ -5,11 +5,10 @@ use Prim.Native.Nat.{ℕ, _+_, _≤_}
 use lib.ListN.{length}
 use Rattle.capture.specs.declared.Mark.{Mark}
 use Rattle.capture.specs.declared.Step.{Step}
-use Rattle.capture.specs.declared.Holding.{Holding}
-use Rattle.capture.specs.declared.HoldingStep.{HoldingStep}
 use Rattle.capture.specs.Frames.{Point, Seen, frame, start, nextOf, framesFrom, framesOf, behindAll, OfPoint}
+use Rattle.capture.specs.Frames.{holdingOf, pointThen, stepOf, holdingBehind}
 use Rattle.capture.specs.Blocks.{textOf, blocks}
-use Rattle.capture.specs.Promises.{AdvancePromise, HoldingPromise}
+use Rattle.capture.specs.Promises.{AdvancePromise}
 
 -- no frame is left out: where more are allowed than a capture has bytes, they are the same
 abbrev pub FramesAreAll : Type 0
@@ -49,9 +48,7 @@ AdvancedOnce = (s : List ℕ) (mark : Mark) (map map₁ map₂ : List ℕ) (tabl
     → OfPoint mark → AdvancePromise s mark map table x map₁ table₁ → AdvancePromise s mark map table y map₂ table₂
     → (x ≡ y) × (map₁ ≡ map₂) × (table₁ ≡ table₂)
 
--- and so does that of `advance_holding`
-abbrev pub HoldingOnce : Type 0
-HoldingOnce = (s : List ℕ) (from : Holding) (map map₁ map₂ : List ℕ) (table table₁ table₂ : List (List ℕ))
-    (x y : HoldingStep)
-    → HoldingPromise s from map table x map₁ table₁ → HoldingPromise s from map table y map₂ table₂
-    → (x ≡ y) × (map₁ ≡ map₂) × (table₁ ≡ table₂)
+-- a step leads on what is held, too: from the holding of a point to that of the point behind the frame
+abbrev pub HoldingFollows : Type 0
+HoldingFollows = (s : List ℕ) (room : ℕ) (c : Point) → let x = nextOf s room c in
+    holdingBehind (holdingOf c) (stepOf c x) ≡ holdingOf (pointThen c x)

@@ -18,7 +18,6 @@ use Rattle.capture.specs.declared.Holding.{Holding}
 use Rattle.capture.specs.declared.Found.{Found}
 use Rattle.capture.specs.declared.Found.the-variants.{Frame, End}
 use Rattle.capture.specs.declared.Step.{Step}
-use Rattle.capture.specs.declared.HoldingStep.{HoldingStep}
 
 -- where a capture is come to: the byte from which the next frame is hunted, the number of its element, what is held
 pub record Point : Type 0 where
@@ -129,17 +128,21 @@ abbrev pub pointThen : Point → Next → Point
 pointThen c (frame m) = behind m
 pointThen c none = c
 
--- what is held behind what was found, by the verdict on it and the configuration that it sent
+-- what is held behind what was found, by the verdict and the configuration that was sent
 abbrev pub heldFrom : Held → Found → Record → Held
 heldFrom held (Frame p n v) sent = heldBy held v sent
 heldFrom held End sent = held
 
--- what `advance` and `advance_holding` answer and leave, by the next frame
+-- what `advance` answers and leaves, by the next frame
 abbrev pub stepOf : Point → Next → Step
 stepOf c x = record { found = foundBy x; sent = sentIn x; next = markOf (pointThen c x) }
 
-abbrev pub holdingStepOf : Point → Next → HoldingStep
-holdingStepOf c x = record { found = foundBy x; next = holdingOf (pointThen c x) }
+-- and what is then kept by who keeps what is held
+abbrev pub holdingBehind : Holding → Step → Holding
+holdingBehind from step = record {
+  mark = step .next;
+  held = heldFrom (from .held) (step .found) (step .sent);
+}
 
 abbrev pub mapBy : List ℕ → Next → List ℕ
 mapBy map (frame m) = mapAfter map (m .reading)

@@ -1,8 +1,8 @@
 // The frames of a capture one after the other, each read with what was held by then.
 ghost use mathlib.Core.Path.{_≡_};
 ghost use Rattle.capture.specs.Blocks.{blockRoom};
-ghost use Rattle.capture.specs.Frames.{start, markOf, OfPoint, holdingOf, Whole, heldFrom};
-ghost use Rattle.capture.specs.Promises.{AdvancePromise, HoldingPromise};
+ghost use Rattle.capture.specs.Frames.{start, markOf, OfPoint, holdingOf, heldFrom, holdingBehind};
+ghost use Rattle.capture.specs.Promises.{AdvancePromise};
 use element::Held;
 use element::Verdict;
 use element::held_by;
@@ -42,12 +42,6 @@ pub struct Step {
     pub found: Found,
     pub sent: Record,
     pub next: Mark,
-}
-
-// The next frame, and where the capture is then come to.
-pub struct HoldingStep {
-    pub found: Found,
-    pub next: Holding,
 }
 
 // Where every capture begins.
@@ -118,30 +112,18 @@ fn held_from(held: Held, found: Found, sent: Record) -> Held
     }
 }
 
-// The same as `advance`, with what is held itself.
-pub fn advance_holding(
-    capture: &[u8],
-    from: Holding,
-    map: &mut [u32],
-    table: &mut [[u8; 8]; 16],
-) -> HoldingStep
-    requires { ⌜ Whole from ⌝ }
-    ensures { λ r. ⌜ HoldingPromise (now (capture .entry)) from (now (map .entry)) (now (table .entry)) r
-        (now (map .exit)) (now (table .exit)) ⌝ }
+// Where the capture is come to by a step, for who keeps what is held.
+pub fn holding_behind(from: Holding, step: Step) -> Holding
+    ensures { λ r. ⌜ r ≡ holdingBehind from step ⌝ }
 {
-    let mark = from.mark;
-    let step = advance(capture, mark, map, table);
+    let before = from.held;
     let found = step.found;
     let sent = step.sent;
-    let next = step.next;
-    let before = from.held;
     let held = held_from(before, found, sent);
-    HoldingStep {
-        found: found,
-        next: Holding {
-            mark: next,
-            held: held,
-        },
+    let next = step.next;
+    Holding {
+        mark: next,
+        held: held,
     }
 }
 

@@ -11,6 +11,7 @@ use borrow.Author.Tests.{leb-false}
 use Rattle.kernel.specs.Lists.{Stored}
 use Rattle.element.specs.declared.Verdict.{Verdict}
 use Rattle.capture.specs.declared.Mark.{Mark}
+use Rattle.capture.specs.declared.Step.{Step}
 use Rattle.capture.specs.Frames.{Point, markOf, OfPoint}
 use Rattle.capture.specs.Blocks.{blockRoom}
 use Rattle.capture.proofs.Steps.{Took}
@@ -21,8 +22,8 @@ use Rattle.listing.specs.Laid.{verdictLines, Within, blockOf, blockText,
 use Rattle.listing.proofs.Lines.{listed-is, within-room}
 
 -- the step of a block took a frame: its items have room in the map, and its records are those of its verdict
-module _ {s : List ℕ} {c : Point} {map map′ : List ℕ} {table table′ : List (List ℕ)} {v : Verdict} {next : Mark}
-    (t : Took markOf s 4368 c map map′ table table′ v next) where
+module _ {s : List ℕ} {c : Point} {map map′ : List ℕ} {table table′ : List (List ℕ)} {v : Verdict} {r : Step}
+    (t : Took s 4368 c map map′ table table′ v r) where
   pub within : length map ≡ 4368 → length map′ ≡ length map → Within v
   within l k = rw (t .verdict) (within-room map (t .seen .reading) l (ap length (sym (t .map-after)) ∙ k))
 

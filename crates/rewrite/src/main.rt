@@ -3,7 +3,8 @@ ghost use mathlib.Core.Path.{_≡_};
 ghost use Prim.Native.Nat.{_+_, _≤_, _<_};
 ghost use lib.ListN.{length};
 use capture::Found;
-use capture::advance_holding;
+use capture::advance;
+use capture::holding_behind;
 use capture::start_holding;
 use element::Verdict;
 use items::Item;
@@ -183,16 +184,16 @@ fn all(
 {
     let mut reached = start_holding();
     loop {
-        let step = advance_holding(capture, reached, map, table);
+        let mark = reached.mark;
+        let step = advance(capture, mark, map, table);
         let found = step.found;
         let Found::Frame(p, n, v) = found else {
             return;
         };
-        let next = step.next;
-        let held = next.held;
+        reached = holding_behind(reached, step);
+        let held = reached.held;
         let el = element_at(capture, p, n);
         one(el, v, held.config, map, lengths, payload, other, out, frame);
-        reached = next;
     }
 }
 

@@ -11,6 +11,7 @@ use borrow.Author.Tests.{leb-false}
 use Rattle.kernel.specs.Lists.{Stored}
 use Rattle.element.specs.declared.Verdict.{Verdict}
 use Rattle.capture.specs.declared.Holding.{Holding}
+use Rattle.capture.specs.declared.Step.{Step}
 use Rattle.capture.specs.Frames.{Point, holdingOf, pointOf, Whole}
 use Rattle.capture.specs.Blocks.{blockRoom}
 use Rattle.capture.proofs.Steps.{Took}
@@ -21,15 +22,15 @@ use Rattle.summary.specs.Laid.{verdictText, verdictSaid, blockOf, blockT
 use Rattle.summary.proofs.Texts.{shown-is, said-is}
 
 -- the step of a block took a frame: its lines, and what is then said, are those of its verdict
-module _ {s : List ℕ} {c : Point} {map map′ : List ℕ} {table table′ : List (List ℕ)} {v : Verdict} {next : Holding}
-    (t : Took holdingOf s 4368 c map map′ table table′ v next) where
-  lines : (said : Bool) → verdictText (c .number) (c .held) said v (next .held .config) table′ ≡ framed said (t .seen)
+module _ {s : List ℕ} {c : Point} {map map′ : List ℕ} {table table′ : List (List ℕ)} {v : Verdict} {r : Step}
+    (t : Took s 4368 c map map′ table table′ v r) where
+  lines : (said : Bool) → verdictText (c .number) (c .held) said v (r .sent) table′ ≡ framed said (t .seen)
   lines said =
-      rw (t .verdict, t .then, t .table-after, t .number, t .before)
+      rw (t .verdict, t .step, t .table-after, t .number, t .before)
       (shown-is (c .number) (c .held) said table (t .seen .reading))
 
   pub laid-frame : (said : Bool) {out out′ : List ℕ} {at to : ℕ}
-      → Stored out at (verdictText (c .number) (c .held) said v (next .held .config) table′) out′ to
+      → Stored out at (verdictText (c .number) (c .held) said v (r .sent) table′) out′ to
       → Stored out at (framed said (t .seen)) out′ to
   laid-frame said {out} {out′} {at} {to} p = subst (λ (b : List ℕ). Stored out at b out′ to) (lines said) p
 

@@ -1,5 +1,5 @@
--- What the functions below the summary promise: the same lines, from a verdict, and the record and the table that are
--- held behind it; in blocks.
+-- What the functions below the summary promise: the same lines, from a verdict, and the record that was sent and the
+-- table that the reading left; in blocks.
 use mathlib.Core.Path.{_≡_}
 use mathlib.Core.Bool.{Bool, cond, _||_}
 use mathlib.Core.List.{List, []}

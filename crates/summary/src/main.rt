@@ -13,8 +13,9 @@ ghost use Rattle.summary.specs.Summary.{firstWanting, refusalText, headT
 ghost use Rattle.summary.specs.Laid.{acceptedBy, verdictText, verdictSaid, BlockPromise};
 use capture::Found;
 use capture::Holding;
-use capture::advance_holding;
+use capture::advance;
 use capture::block_room;
+use capture::holding_behind;
 use capture::start_holding;
 use element::Held;
 use element::Verdict;
@@ -77,7 +78,7 @@ fn first_wanting(said: bool, x: Refusal) -> bool
     !said & (x.number == 4)
 }
 
-// The lines of an element, by its verdict, what was held before it, and the record and the table behind it.
+// The lines of an element, by its verdict and what a reading left.
 fn lay_verdict(
     out: &mut [u8],
     at: usize,
@@ -139,7 +140,8 @@ fn lay_frames(
     let mut said = before;
     let mut used: usize = 0;
     while used + 14336 <= room {
-        let step = advance_holding(capture, reached, map, table);
+        let mark = reached.mark;
+        let step = advance(capture, mark, map, table);
         let found = step.found;
         let Found::Frame(_, _, v) = found else {
             return Block {
@@ -149,12 +151,11 @@ fn lay_frames(
                 ended: true,
             };
         };
-        let next = step.next;
-        let held = next.held;
+        let sent = step.sent;
         let filled = *table;
-        used = lay_verdict(out, used, reached.mark.number, reached.held, said, v, held.config, filled);
+        used = lay_verdict(out, used, mark.number, reached.held, said, v, sent, filled);
         said = said_after(said, v);
-        reached = next;
+        reached = holding_behind(reached, step);
     }
     Block {
         reached: reached,

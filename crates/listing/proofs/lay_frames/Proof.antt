@@ -6,7 +6,7 @@ use lib.ListN.{length}
 use borrow.Author.Tests.{le-leb, lt-leb}
 use borrow.Author.Needs.{needs}
 use Rattle.capture.specs.Frames.{Point, behind, markOf}
-use Rattle.capture.proofs.Steps.{Took, took, took-none, took-further}
+use Rattle.capture.proofs.Steps.{Took, took, took-none, took-further, mark-then}
 use Rattle.capture.proofs.Blocks.{left-all, left-on, left-none, left-full}
 use Rattle.listing.specs.Listing.{framed, unchanged}
 use Rattle.listing.proofs.Blocks.{within, laid-frame, Reached, Going, block-laid}
@@ -33,8 +33,8 @@ taken : (f : tie.After-found Inv-loop μ-loop) → let a = f .before .before .be
     let l = a .before .before .before .before in
     let s = l .before .before .before .before .before .args .capture .now in
     (c : Point) → l .loop .reached ≡ markOf c
-    → Took markOf s 4368 c (l .loop .map) (a .advance .last .1 .1 .0) (l .loop .table) (a .advance .last .1 .1 .1 .0)
-    (f .found .given .0 .1 .1 .0) (a .advance .result .next)
+    → Took s 4368 c (l .loop .map) (a .advance .last .1 .1 .0) (l .loop .table) (a .advance .last .1 .1 .1 .0)
+    (f .found .given .0 .1 .1 .0) (a .advance .result)
 taken f c mark =
     let a = f .before .before .before .before in
     let l = a .before .before .before .before in
@@ -83,8 +83,7 @@ loop-less c =
     let l = f .before .before .before .before .before .before .before .before in
     let s = l .before .before .before .before .before .args .capture .now in
     let g = going l in
-    let t = taken f (g .point) (g .mark) in
-    rw (g .mark, t .then) (omega (arith, took-further s 4368 (g .point) t))
+    rw (g .mark) (omega (arith, took-further (taken f (g .point) (g .mark))))
 
 loop-again : tie.Need-loop-again Inv-loop μ-loop
 loop-again c =
@@ -104,7 +103,7 @@ loop-again c =
           let t = taken f (g .point) (g .mark) in
           record {
             point = behind (t .seen);
-            mark = t .then;
+            mark = mark-then t;
             left = left-on framed unchanged 26208 _ s 4368 (t .seen) (g .left) (t .is) (le-leb _ _ h)
                 (laid-frame t (g .mark) (n .1));
           };
