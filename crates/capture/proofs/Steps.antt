@@ -26,9 +26,9 @@ use Rattle.capture.specs.declared.Holding.{Holding}
 use Rattle.capture.specs.declared.Found.{Found}
 use Rattle.capture.specs.declared.Found.the-variants.{Frame, End}
 use Rattle.capture.specs.declared.Step.{Step}
-use Rattle.capture.specs.Frames.{Point, Seen, Next, frame, none, behind, seenAt, nextBy, nextOf, markOf, holdingOf}
-use Rattle.capture.specs.Frames.{pointOf, Whole, foundBy, sentIn, pointThen, heldFrom, stepOf, holdingBehind}
-use Rattle.capture.specs.Frames.{mapBy, tableBy}
+use Rattle.capture.specs.Frames.{Point, Seen, Next, frame, none, behind, seenAt, nextBy, nextOf, markOf}
+use Rattle.capture.specs.Frames.{holdingOf, pointOf, Whole, foundBy, sentIn, pointThen, heldFrom, stepOf}
+use Rattle.capture.specs.Frames.{holdingBehind, mapBy, tableBy}
 use Rattle.capture.specs.Promises.{AdvancePromise}
 use Rattle.capture.proofs.Frames.{OfNext, next-inside}
 
@@ -145,7 +145,8 @@ module _ (s : List ℕ) (room : ℕ) (c : Point) (map : List ℕ) (table : List 
     took-none h = let b = rw l at (a c mark) in none-by (nextOf s room c) refl (b .0) h
 
 -- what is held follows the mark
-held-behind : (c : Point) (x : Next) → OfNext (From c) x → heldFrom (c .held) (foundBy x) (sentIn x) ≡ pointThen c x .held
+held-behind : (c : Point) (x : Next) → OfNext (From c) x
+    → heldFrom (c .held) (foundBy x) (sentIn x) ≡ pointThen c x .held
 held-behind c (frame m) w = rw (w .1) (held-is-told (c .held) (m .reading))
 held-behind c none w = refl
 

@@ -57,6 +57,7 @@ pub fn start() -> Mark
     }
 }
 
+// The same, with what is held there.
 pub fn start_holding() -> Holding
     ensures { λ r. ⌜ r ≡ holdingOf start ⌝ }
 {

@@ -47,8 +47,8 @@ pub record Going (s : List ℕ) (size : ℕ) (out₀ : List ℕ) (before : Bool)
   pub left : Left framed saidThen 14336 size s 4368 out₀ before c₀ out used said (pointOf reached)
 
 -- what was laid is a block
-pub block-laid : {s out out′ : List ℕ} {size used : ℕ} {from : Point} {reached : Holding} {before said : Bool} (t : Bool)
-    → Whole reached → Laid framed saidThen 14336 size s 4368 out before from out′ used said (pointOf reached)
+pub block-laid : {s out out′ : List ℕ} {size used : ℕ} {from : Point} {reached : Holding} {before said : Bool}
+    (t : Bool) → Whole reached → Laid framed saidThen 14336 size s 4368 out before from out′ used said (pointOf reached)
     → size ≡ blockRoom (length out) → leb (used + 14336) size ≡ t
     → BlockPromise s from before out (record { reached = reached; said = said; bytes = used; ended = t }) out′
 block-laid {s} {out} {out′} {size} {used} {from} {reached} {before} {said} t k l e h =
