@@ -9,9 +9,8 @@ use lib.Dec.{leb, ltb}
 use lib.ListN.{length, set, drop, replicate, length-set}
 use lib.Seq.{getD-set-same}
 use borrow.Author.Tests.{leb-true, leb-false, ltb-false, le-ltb}
-use Rattle.kernel.specs.declared.Window.the-variants.{Open}
 use Rattle.kernel.specs.declared.Refusal.{Refusal}
-use Rattle.kernel.specs.Reading.{Reading, give, field, need, _>>=_, _>>_, run, Stands}
+use Rattle.kernel.specs.Reading.{Reading, give, _>>=_, run, Stands}
 use Rattle.kernel.specs.Answer.{Told, value, refusal, told}
 use Rattle.kernel.proofs.Run.{bind-assoc}
 use Rattle.kernel.proofs.Tests.{either, neither}
