@@ -181,6 +181,15 @@ def subframes():
     yield held(fixed, [0] * 16)
 
 
+def blocks():
+    """More text than one block of 65,536 bytes has room for, of records and of rows."""
+    full = Mux(((Layer(),) * 8,) * 2, subframes=64)
+    yield sent(full, *[[0] * 16] * 64)
+    yield from (held(full, *[[size] * 16] * 64) for size in (0, 1))
+    for i in range(32):
+        yield sent(Mux(((Layer(Audio(2, Index(i % 13), 1 + i % 7)),) * 8,) * 2), [i] * 16)
+
+
 def refused(record, number, field, nth=0, more=0, **ways):
     """An element whose nth field of that name is refused for its value."""
     e = sent_element(record, [[9] * len(record.streams)] * record.subframes, **ways)
@@ -312,6 +321,7 @@ samples = {
     "two-programmes": list(two_programmes()),
     "signalling": list(signalling()),
     "subframes": list(subframes()),
+    "blocks": list(blocks()),
     "damaged": list(damaged()) + [CUT_FRAME],
     "no-frame": [NO_FRAME],
     "no-configuration": list(no_configuration()),

@@ -1,19 +1,23 @@
 -- Laws of the text of frames and of the blocks that it is laid in.
 use mathlib.Core.Path.{_≡_, refl, ap, sym, _∙_, subst}
 use mathlib.Core.Bool.{Bool, true, false, cond}
-use mathlib.Core.List.{List, [], _∷_, _++_, append-assoc}
+use mathlib.Core.List.{List, [], _∷_, _++_, append-assoc, append-nil}
 use Prim.Native.Nat.{ℕ, zero, suc, _+_, _≤_, _<_}
 use native.Mathlib.Nat.{zero-add}
 use native.Mathlib.Omega.{arith}
 use lib.Dec.{leb}
 use lib.ListN.{length, length-append}
-use borrow.Author.Tests.{le-leb}
+use borrow.Author.Tests.{le-leb, leb-true, leb-false}
 use Rattle.capture.specs.Frames.{Point, Seen, Next, frame, none, behind, thenFrames, nextOf, framesFrom, framesOf}
 use Rattle.capture.specs.Frames.{behindAll}
-use Rattle.capture.specs.Blocks.{textOf, afterAll, fitting, blockOf, blocks}
+use Rattle.capture.specs.Blocks.{textOf, afterAll, fitting, blockOf, isLast, blocks}
 use Rattle.kernel.specs.Lists.{Stored}
 use Rattle.kernel.proofs.Lists.{ToStore, store-all, store-on, stored-none}
 use Rattle.capture.proofs.Frames.{no-frames, frames-on, sittings, few-frames, further}
+
+none-if-short : (ms : List Seen) → length ms ≤ 0 → ms ≡ []
+none-if-short [] h = refl
+none-if-short (m ∷ ms) h = absurd (omega arith)
 
 module _ {S : Type 0} (text : S → Seen → List ℕ) (after : S → Seen → S) where
   text-append : (x : S) (ms ns : List Seen)
@@ -59,6 +63,24 @@ module _ {S : Type 0} (text : S → Seen → List ℕ) (after : S → Seen → S
     fewer x (m ∷ ms) n k h e l =
         let t : leb (0 + most) size ≡ true = rw zero-add (le-leb most size h) in
         omega (arith, rw t at e)
+
+    -- a block that ends with room for one text more has all of them
+    has-next : (x : S) (used : ℕ) (m : Seen) (ms rest : List Seen) (t : Bool) → leb (used + most) size ≡ t
+        → (used + length (text x m) + length (textOf text after (after x m) rest) + most ≤ size → rest ≡ ms)
+        → used + length (textOf text after x (cond t (m ∷ rest) [])) + most ≤ size → cond t (m ∷ rest) [] ≡ m ∷ ms
+    unfolding textOf
+    has-next x used m ms rest true e ih h =
+        let l = length-append (text x m) (textOf text after (after x m) rest) in
+        ap (λ (z : List Seen). m ∷ z) (ih (omega (arith, l)))
+    has-next x used m ms rest false e ih h = absurd (omega (arith, leb-false (used + most) size e))
+
+    has-all : (x : S) (used : ℕ) (ms : List Seen)
+        → used + length (textOf text after x (fitting text after most size x used ms)) + most ≤ size
+        → fitting text after most size x used ms ≡ ms
+    unfolding fitting
+    has-all x used [] h = refl
+    has-all x used (m ∷ ms) h =
+        has-next x used m ms _ (leb (used + most) size) refl (has-all (after x m) (used + length (text x m)) ms) h
 
     module _ (s : List ℕ) (room : ℕ) where
       -- the frames of a block are the first of those that are left
@@ -107,17 +129,38 @@ module _ {S : Type 0} (text : S → Seen → List ℕ) (after : S → Seen → S
           subst (λ (ms : List Seen). 1 ≤ length ms → (c .at < behindAll c ms .at) × (behindAll c ms .at ≤ length s))
           (sym (firsts (length s) x 0 c)) (further s room (length b) c) n
 
+      pub last-has-all : (x : S) (c : Point) → let ms = blockOf text after most size x (framesOf s room c) in
+          isLast text after most size x ms ≡ true → ms ≡ framesOf s room c
+      last-has-all x c e =
+          has-all x 0 (framesOf s room c) (rw zero-add (leb-true _ size e))
+
+      pub none-behind-last : (x : S) (c : Point) → let ms = blockOf text after most size x (framesOf s room c) in
+          isLast text after most size x ms ≡ true → framesOf s room (behindAll c ms) ≡ []
+      none-behind-last x c e =
+          let b = blockOf text after most size x (framesOf s room c) in
+          let all = ap length (last-has-all x c e ∙ block-then x c) ∙ length-append b _ in
+          none-if-short _ (omega (arith, all))
+
+      laid-next : (k : ℕ) (x : S) (c : Point) → let b = blockOf text after most size x (framesOf s room c) in
+          let y = afterAll text after x b in let d = behindAll c b in
+          (t : Bool) → isLast text after most size x b ≡ t
+          → blocks text after most size (framesOf s room) k y d ≡ textOf text after y (framesOf s room d)
+          → textOf text after x b ++ cond t [] (blocks text after most size (framesOf s room) k y d)
+          ≡ textOf text after x (framesOf s room c)
+      laid-next k x c true e ih = append-nil _ ∙ ap (textOf text after x) (last-has-all x c e)
+      laid-next k x c false e ih =
+          rw ih (sym (ap (textOf text after x) (block-then x c)
+          ∙ text-append x (blockOf text after most size x (framesOf s room c)) _))
+
       all-laid : (k : ℕ) (x : S) (c : Point) → most ≤ size → length (framesOf s room c) ≤ k
           → blocks text after most size (framesOf s room) k x c ≡ textOf text after x (framesOf s room c)
       unfolding blocks
       all-laid zero x c h l = sym (no-text x (framesOf s room c) l)
       all-laid (suc k) x c h l =
           let b = blockOf text after most size x (framesOf s room c) in
-          let e = block-then x c in
           let n = fewer x (framesOf s room c) (length (framesOf s room (behindAll c b))) k h
-          (ap length e ∙ length-append b _) l in
-          rw (all-laid k (afterAll text after x b) (behindAll c b) h n)
-          (sym (ap (textOf text after x) e ∙ text-append x b _))
+          (ap length (block-then x c) ∙ length-append b _) l in
+          laid-next k x c (isLast text after most size x b) refl (all-laid k (afterAll text after x b) (behindAll c b) h n)
 
       pub whole : (x : S) (c : Point) → most ≤ size
           → blocks text after most size (framesOf s room) (length s) x c ≡ textOf text after x (framesOf s room c)

@@ -4,10 +4,10 @@ use native.Mathlib.Omega.{arith}
 use lib.ListN.{length}
 use Rattle.capture.specs.Frames.{start}
 use Rattle.capture.specs.Claims.{FramesAreAll, NextIsInside, SittingsAreOne, NumbersInOrder, BlocksAreWhole}
-use Rattle.capture.specs.Claims.{AdvancedOnce, HoldingFollows}
+use Rattle.capture.specs.Claims.{LastLeavesNone, AdvancedOnce, HoldingFollows}
 use Rattle.capture.proofs.Frames.{all-frames, next-inside, sittings, numbered}
 use Rattle.capture.proofs.Steps.{held-follows}
-use Rattle.capture.proofs.Blocks.{whole}
+use Rattle.capture.proofs.Blocks.{none-behind-last, whole}
 
 pub frames-are-all : FramesAreAll
 frames-are-all s room more c = all-frames s room more (length s) c (omega arith)
@@ -20,6 +20,9 @@ sittings-are-one s room k c = sittings s room k c
 
 pub numbers-in-order : NumbersInOrder
 numbers-in-order s room = numbered s room (length s) start (omega arith)
+
+pub last-leaves-none : LastLeavesNone
+last-leaves-none S text after most size s room x c = none-behind-last text after most size s room x c
 
 pub blocks-are-whole : BlocksAreWhole
 blocks-are-whole S text after most size s room x c h = whole text after most size s room x c h

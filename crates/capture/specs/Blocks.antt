@@ -1,5 +1,5 @@
 -- The text of frames one after the other, and the frames whose text is laid into a block.
-use mathlib.Core.Bool.{cond}
+use mathlib.Core.Bool.{Bool, cond}
 use mathlib.Core.List.{List, [], _∷_, _++_}
 use Prim.Native.Nat.{ℕ, zero, suc, _+_, min}
 use lib.Dec.{leb}
@@ -30,9 +30,13 @@ module _ {S : Type 0} (text : S → Seen → List ℕ) (after : S → Seen → S
     abbrev pub blockOf : S → List Seen → List Seen
     blockOf x ms = fitting x 0 ms
 
-    -- the text of k blocks one after the other, each from where the one before was come to
+    -- a block with room for one text more is the last (`LastLeavesNone`)
+    abbrev pub isLast : S → List Seen → Bool
+    isLast x ms = leb (length (textOf x ms) + most) room
+
+    -- the text of at most k blocks one after the other, each from where the one before was come to, up to the last
     unfoldable pub blocks : (Point → List Seen) → ℕ → S → Point → List ℕ
     blocks frames zero x c = []
     blocks frames (suc k) x c =
         let ms = blockOf x (frames c) in
-        textOf x ms ++ blocks frames k (afterAll x ms) (behindAll c ms)
+        textOf x ms ++ cond (isLast x ms) [] (blocks frames k (afterAll x ms) (behindAll c ms))

@@ -1,5 +1,6 @@
 -- What is claimed of the frames of a capture. proofs/Theorems.antt has the theorem of each.
 use mathlib.Core.Path.{_≡_}
+use mathlib.Core.Bool.{true}
 use mathlib.Core.List.{List, [], _∷_, _++_}
 use Prim.Native.Nat.{ℕ, _+_, _≤_}
 use lib.ListN.{length}
@@ -7,7 +8,7 @@ use Rattle.capture.specs.declared.Mark.{Mark}
 use Rattle.capture.specs.declared.Step.{Step}
 use Rattle.capture.specs.Frames.{Point, Seen, frame, start, nextOf, framesFrom, framesOf, behindAll, OfPoint}
 use Rattle.capture.specs.Frames.{holdingOf, pointThen, stepOf, holdingBehind}
-use Rattle.capture.specs.Blocks.{textOf, blocks}
+use Rattle.capture.specs.Blocks.{textOf, blockOf, isLast, blocks}
 use Rattle.capture.specs.Promises.{AdvancePromise}
 
 -- no frame is left out: where more are allowed than a capture has bytes, they are the same
@@ -33,8 +34,15 @@ Numbered n (m ∷ ms) = (m .number ≡ n) × Numbered (n + 1) ms
 abbrev pub NumbersInOrder : Type 0
 NumbersInOrder = (s : List ℕ) (room : ℕ) → Numbered 0 (framesOf s room start)
 
--- a text of frames is laid whole in as many blocks as there are bytes in the capture, where a block has room for the
--- longest text of a frame
+-- behind the last block no frame is left
+abbrev pub LastLeavesNone : Type 1
+LastLeavesNone =
+    (S : Type 0) (text : S → Seen → List ℕ) (after : S → Seen → S) (most size : ℕ) (s : List ℕ) (room : ℕ) (x : S)
+    (c : Point) → let ms = blockOf text after most size x (framesOf s room c) in
+    isLast text after most size x ms ≡ true → framesOf s room (behindAll c ms) ≡ []
+
+-- a text of frames is laid whole in blocks up to the last, of which there are no more than bytes in the capture, where
+-- a block has room for the longest text of a frame
 abbrev pub BlocksAreWhole : Type 1
 BlocksAreWhole =
     (S : Type 0) (text : S → Seen → List ℕ) (after : S → Seen → S) (most size : ℕ) (s : List ℕ) (room : ℕ) (x : S)

@@ -2,7 +2,6 @@
 use mathlib.Core.Path.{_≡_}
 use mathlib.Core.List.{List, [], _++_}
 use Prim.Native.Nat.{ℕ, zero, suc, _+_, _≤_}
-use lib.Dec.{leb}
 use lib.ListN.{length}
 use Rattle.kernel.specs.Lists.{Stored}
 use Rattle.element.specs.declared.Verdict.{Verdict}
@@ -44,7 +43,7 @@ module _ (s : List ℕ) (size : ℕ) (c : Point) where
   blockOf = record {
     reached = markOf (behindAll c blockFrames);
     bytes = length blockText;
-    ended = leb (length blockText + 26208) size;
+    ended = capture.isLast framed unchanged 26208 size tt blockFrames;
   }
 
 -- `lay_block`, with its bytes before and after it, whatever point the mark is of

@@ -4,7 +4,6 @@ use mathlib.Core.Path.{_≡_}
 use mathlib.Core.Bool.{Bool, cond, _||_}
 use mathlib.Core.List.{List, []}
 use Prim.Native.Nat.{ℕ, _+_}
-use lib.Dec.{leb}
 use lib.ListN.{length}
 use Rattle.kernel.specs.Lists.{Stored}
 use Rattle.records.specs.declared.Record.{Record}
@@ -41,7 +40,7 @@ module _ (s : List ℕ) (size : ℕ) (c : Point) (said : Bool) where
     reached = holdingOf (behindAll c blockFrames);
     said = capture.afterAll framed saidThen said blockFrames;
     bytes = length blockText;
-    ended = leb (length blockText + 14336) size;
+    ended = capture.isLast framed saidThen 14336 size said blockFrames;
   }
 
 -- `lay_block`, with its bytes before and after it
