@@ -5,7 +5,7 @@ use native.Mathlib.Omega.{arith}
 use lib.ListN.{length, length-take}
 use borrow.Author.Needs.{needs}
 use Rattle.capture.specs.Frames.{OfPoint}
-use Rattle.listing.proofs.Blocks.{block-of, block-on}
+use Rattle.listing_blocks.proofs.Blocks.{block-of, block-on}
 use Rattle.listing.proofs.list.Statement.{statement}
 use Rattle.listing.proofs.list.Tie as tie
 

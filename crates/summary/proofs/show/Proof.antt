@@ -4,7 +4,7 @@ use Prim.Native.Nat.{_-_}
 use native.Mathlib.Omega.{arith}
 use lib.ListN.{length, length-take}
 use Rattle.capture.specs.Frames.{pointOf, Whole}
-use Rattle.summary.proofs.Blocks.{block-whole, block-on}
+use Rattle.summary_blocks.proofs.Blocks.{block-whole, block-on}
 use borrow.Author.Needs.{needs}
 use Rattle.summary.proofs.show.Statement.{statement}
 use Rattle.summary.proofs.show.Tie as tie
