@@ -150,11 +150,13 @@ held-behind : (c : Point) (x : Next) → OfNext (From c) x
 held-behind c (frame m) w = rw (w .1) (held-is-told (c .held) (m .reading))
 held-behind c none w = refl
 
+follows : (c : Point) (x : Next) → OfNext (From c) x
+    → holdingBehind (holdingOf c) (stepOf c x) ≡ holdingOf (pointThen c x)
+follows c x w = ap (λ (h : Held). record { mark = markOf (pointThen c x); held = h }) (held-behind c x w)
+
 pub held-follows : (s : List ℕ) (room : ℕ) (c : Point) → let x = nextOf s room c in
     holdingBehind (holdingOf c) (stepOf c x) ≡ holdingOf (pointThen c x)
-held-follows s room c =
-    let x = nextOf s room c in
-    ap (λ (h : Held). record { mark = markOf (pointThen c x); held = h }) (held-behind c x (next-from s room c))
+held-follows s room c = follows c (nextOf s room c) (next-from s room c)
 
 -- behind the frame that a step took
 module _ {s : List ℕ} {room : ℕ} {c : Point} {map map′ : List ℕ} {table table′ : List (List ℕ)} {v : Verdict}
@@ -170,10 +172,7 @@ module _ {s : List ℕ} {room : ℕ} {c : Point} {map map′ : List ℕ} {table 
   -- and what is kept with what is held leads to the point there
   module _ (from : Holding) (e : from .held ≡ c .held) {h : Holding} (b : h ≡ holdingBehind from r) where
     holding-then : h ≡ holdingOf (behind (t .seen))
-    holding-then =
-        b ∙ rw (t .step, e)
-        (ap (λ (z : Held). record { mark = markOf (behind (t .seen)); held = z })
-        (held-behind c (frame (t .seen)) (t .number, t .before)))
+    holding-then = b ∙ rw (t .step, e) (follows c (frame (t .seen)) (t .number, t .before))
 
     pub whole-then : Whole h
     whole-then = rw holding-then
