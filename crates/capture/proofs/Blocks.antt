@@ -13,7 +13,7 @@ use Rattle.capture.specs.Frames.{behindAll}
 use Rattle.capture.specs.Blocks.{textOf, afterAll, fitting, blockOf, isLast, blocks}
 use Rattle.kernel.specs.Lists.{Stored}
 use Rattle.kernel.proofs.Lists.{ToStore, store-all, store-on, stored-none}
-use Rattle.capture.proofs.Frames.{no-frames, frames-on, sittings, few-frames, further}
+use Rattle.capture.proofs.Frames.{no-frames, frames-on, sittings, few-frames, frames-by, further}
 
 none-if-short : (ms : List Seen) → length ms ≤ 0 → ms ≡ []
 none-if-short [] h = refl
@@ -95,19 +95,13 @@ module _ {S : Type 0} (text : S → Seen → List ℕ) (after : S → Seen → S
       IsFirst : Point → List Seen → Type 0
       IsFirst c ms = ms ≡ framesFrom s room (length ms) c
 
-      first-by : (k : ℕ) (x : S) (used : ℕ) (c : Point) (y : Next) → nextOf s room c ≡ y
-          → ((z : S) (u : ℕ) (d : Point) → IsFirst d (fitting text after most size z u (framesFrom s room k d)))
-          → IsFirst c (fitting text after most size x used (thenFrames y (framesFrom s room k)))
-      unfolding fitting framesFrom IsFirst
-      first-by k x used c (frame m) e ih =
-          first-next c m e (leb (used + most) size) _ (ih (after x m) (used + length (text x m)) (behind m))
-      first-by k x used c none e ih = refl
-
-      firsts : (k : ℕ) (x : S) (used : ℕ) (c : Point)
+      firsts : (k : ℕ) (c : Point) (x : S) (used : ℕ)
           → IsFirst c (fitting text after most size x used (framesFrom s room k c))
       unfolding fitting framesFrom IsFirst
-      firsts zero x used c = refl
-      firsts (suc k) x used c = first-by k x used c (nextOf s room c) refl (firsts k)
+      firsts =
+          frames-by s room (λ c ms. (x : S) (used : ℕ) → IsFirst c (fitting text after most size x used ms))
+          (λ c x used. refl) (λ c m ms e ih x used.
+          first-next c m e (leb (used + most) size) _ (ih (after x m) (used + length (text x m))))
 
       -- a block, and what is left behind it
       pub block-then : (x : S) (c : Point) → let ms = blockOf text after most size x (framesOf s room c) in
@@ -116,7 +110,7 @@ module _ {S : Type 0} (text : S → Seen → List ℕ) (after : S → Seen → S
       block-then x c =
           let b = blockOf text after most size x (framesOf s room c) in
           subst (λ (ms : List Seen). framesOf s room c ≡ ms ++ framesOf s room (behindAll c ms))
-          (sym (firsts (length s) x 0 c)) (sittings s room (length b) c)
+          (sym (firsts (length s) c x 0)) (sittings s room (length b) c)
 
       -- behind a full block the capture is come further
       pub full-further : (x : S) (c : Point) → let ms = blockOf text after most size x (framesOf s room c) in
@@ -127,7 +121,7 @@ module _ {S : Type 0} (text : S → Seen → List ℕ) (after : S → Seen → S
           let b = blockOf text after most size x (framesOf s room c) in
           let n = some-frame x b (omega arith) in
           subst (λ (ms : List Seen). 1 ≤ length ms → (c .at < behindAll c ms .at) × (behindAll c ms .at ≤ length s))
-          (sym (firsts (length s) x 0 c)) (further s room (length b) c) n
+          (sym (firsts (length s) c x 0)) (further s room (length b) c) n
 
       pub last-has-all : (x : S) (c : Point) → let ms = blockOf text after most size x (framesOf s room c) in
           isLast text after most size x ms ≡ true → ms ≡ framesOf s room c

@@ -32,6 +32,10 @@ abbrev pub OfNext : (Seen → Type 0) → Next → Type 0
 OfNext P (frame m) = P m
 OfNext P none = Unit {0}
 
+-- the number of the place come to, and what is held there before it
+abbrev pub From : Point → Seen → Type 0
+From c m = (m .number ≡ c .number) × (m .before ≡ c .held)
+
 module _ (s : List ℕ) (room : ℕ) where
   -- a frame lies inside the capture, at or behind a place
   abbrev pub InsideFrom : ℕ → Seen → Type 0
@@ -99,30 +103,36 @@ module _ (s : List ℕ) (room : ℕ) where
       let e : length s + k ≡ k + length s = omega arith in
       sym (all-frames k (length s) c (omega arith)) ∙ ap (λ (n : ℕ). framesFrom s room n c) e ∙ two-goes k (length s) c
 
+  -- the induction over frames: what holds of none of them, and with the next one in front, holds of as many as there are
+  module _ (P : Point → List Seen → Type 0) (of-none : (c : Point) → P c [])
+      (of-next : (c : Point) (m : Seen) (ms : List Seen) → nextOf s room c ≡ frame m → P (behind m) ms
+      → P c (m ∷ ms)) where
+    next-by : (k : ℕ) (c : Point) (x : Next) → nextOf s room c ≡ x → ((d : Point) → P d (framesFrom s room k d))
+        → P c (thenFrames x (framesFrom s room k))
+    next-by k c (frame m) e ih = of-next c m _ e (ih (behind m))
+    next-by k c none e ih = of-none c
+
+    pub frames-by : (k : ℕ) (c : Point) → P c (framesFrom s room k c)
+    unfolding framesFrom
+    frames-by zero c = of-none c
+    frames-by (suc k) c = next-by k c (nextOf s room c) refl (frames-by k)
+
   -- behind some frames a capture is come further, and not beyond its end
-  further-from : (c d : Point) (ms : List Seen) → c .at < d .at → d .at ≤ length s
-      → (1 ≤ length ms → (d .at < behindAll d ms .at) × (behindAll d ms .at ≤ length s))
+  abbrev pub Further : Point → List Seen → Type 0
+  Further c ms = 1 ≤ length ms → (c .at < behindAll c ms .at) × (behindAll c ms .at ≤ length s)
+
+  further-from : (c d : Point) (ms : List Seen) → c .at < d .at → d .at ≤ length s → Further d ms
       → (c .at < behindAll d ms .at) × (behindAll d ms .at ≤ length s)
   unfolding behindAll
   further-from c d [] lo hi f = (lo, hi)
   further-from c d (m ∷ ms) lo hi f = let g = f (omega arith) in (omega (arith, g .0), g .1)
 
-  further-next : (k : ℕ) (c : Point) (x : Next) → nextOf s room c ≡ x
-      → ((d : Point) → let ms = framesFrom s room k d in
-      1 ≤ length ms → (d .at < behindAll d ms .at) × (behindAll d ms .at ≤ length s))
-      → let ms = thenFrames x (framesFrom s room k) in
-      1 ≤ length ms → (c .at < behindAll c ms .at) × (behindAll c ms .at ≤ length s)
+  pub further : (k : ℕ) (c : Point) → Further c (framesFrom s room k c)
   unfolding behindAll
-  further-next k c (frame m) e ih h =
+  further =
+      frames-by Further (λ c h. absurd (omega arith)) (λ c m ms e f h.
       let i = next-inside c m e in
-      further-from c (behind m) (framesFrom s room k (behind m)) (omega (arith, i)) (i .2) (ih (behind m))
-  further-next k c none e ih h = absurd (omega arith)
-
-  pub further : (k : ℕ) (c : Point) → let ms = framesFrom s room k c in
-      1 ≤ length ms → (c .at < behindAll c ms .at) × (behindAll c ms .at ≤ length s)
-  unfolding framesFrom
-  further zero c h = absurd (omega arith)
-  further (suc k) c h = further-next k c (nextOf s room c) refl (further k) h
+      further-from c (behind m) ms (omega (arith, i)) (i .2) f)
 
   few-next : (k : ℕ) (x : Next) → ((d : Point) → length (framesFrom s room k d) ≤ k)
       → length (thenFrames x (framesFrom s room k)) ≤ suc k
@@ -136,29 +146,27 @@ module _ (s : List ℕ) (room : ℕ) where
 
   -- what holds of every frame that may be seen holds of each frame of a capture
   module _ (P : Seen → Type 0) (f : (c : Point) (p n : ℕ) → c .number ≤ 65536 → P (seenAt s room c p n)) where
-    each-next : (k : ℕ) (c : Point) (h : Hunted) → c .number ≤ 65536
-        → ((d : Point) → d .number ≤ 65536 → OfEach P (framesFrom s room k d))
-        → OfEach P (thenFrames (nextBy s room c h) (framesFrom s room k))
-    each-next k c (Found p n) few ih = (f c p n few, ih _ (omega arith))
-    each-next k c (Refused x) few ih = tt
+    seen-next : (c : Point) → c .number ≤ 65536 → (h : Hunted) → OfNext P (nextBy s room c h)
+    seen-next c few (Found p n) = f c p n few
+    seen-next c few (Refused x) = tt
 
     pub each-frame : (k : ℕ) (c : Point) → c .number ≤ 65536 → OfEach P (framesFrom s room k c)
-    unfolding framesFrom
-    each-frame zero c few = tt
-    each-frame (suc k) c few = each-next k c (huntOf s (c .at)) few (each-frame k)
+    each-frame =
+        frames-by (λ c ms. c .number ≤ 65536 → OfEach P ms) (λ c few. tt)
+        (λ c m ms e ih few. (subst (OfNext P) e (seen-next c few (huntOf s (c .at))), ih (omega arith)))
+
+  of-place : (c : Point) (h : Hunted) → OfNext (From c) (nextBy s room c h)
+  of-place c (Found p n) = (refl, refl)
+  of-place c (Refused x) = tt
+
+  pub next-from : (c : Point) → OfNext (From c) (nextOf s room c)
+  next-from c = of-place c (huntOf s (c .at))
 
   -- an element has no more in front of it than bytes
-  numbered-next : (k : ℕ) (c : Point) (h : Hunted) → huntOf s (c .at) ≡ h → c .number ≤ c .at
-      → ((d : Point) → d .number ≤ d .at → Numbered (d .number) (framesFrom s room k d))
-      → Numbered (c .number) (thenFrames (nextBy s room c h) (framesFrom s room k))
-  numbered-next k c (Found p n) e few ih =
-      let i = element-is-inside s (c .at) p n e in
-      let m = seenAt s room c p n in
-      let r : c .number % 65536 + 1 ≡ c .number + 1 = omega (arith, i .0, i .1, i .2, i .3) in
-      (refl, subst (λ (z : ℕ). Numbered z (framesFrom s room k (behind m))) r (ih (behind m) (omega (arith, i .0))))
-  numbered-next k c (Refused x) e few ih = tt
-
   pub numbered : (k : ℕ) (c : Point) → c .number ≤ c .at → Numbered (c .number) (framesFrom s room k c)
-  unfolding framesFrom
-  numbered zero c few = tt
-  numbered (suc k) c few = numbered-next k c (huntOf s (c .at)) refl few (numbered k)
+  numbered =
+      frames-by (λ c ms. c .number ≤ c .at → Numbered (c .number) ms) (λ c few. tt) (λ c m ms e ih few.
+      let i = next-inside c m e in
+      let w : m .number ≡ c .number = subst (OfNext (From c)) e (next-from c) .0 in
+      let r : m .number % 65536 + 1 ≡ c .number + 1 = omega (arith, i .0, i .1, i .2, i .3, w) in
+      (w, subst (λ (z : ℕ). Numbered z ms) r (ih (omega (arith, i .0, w)))))

@@ -30,7 +30,7 @@ use Rattle.capture.specs.Frames.{Point, Seen, Next, frame, none, behind,
 use Rattle.capture.specs.Frames.{holdingOf, pointOf, Whole, foundBy, sentIn, pointThen, heldFrom, stepOf}
 use Rattle.capture.specs.Frames.{holdingBehind, mapBy, tableBy}
 use Rattle.capture.specs.Promises.{AdvancePromise}
-use Rattle.capture.proofs.Frames.{OfNext, next-inside}
+use Rattle.capture.proofs.Frames.{OfNext, next-inside, From, next-from}
 
 -- the step to a frame with this reply to its element
 abbrev pub stepWith : Mark → ℕ → ℕ → PreparedReply → Step
@@ -96,17 +96,6 @@ verdictIn End = verdict.Refused (unread 0)
 isFrame : Found → ℕ
 isFrame (Frame p n v) = 1
 isFrame End = 0
-
--- of the place that a frame is next from
-abbrev From : Point → Seen → Type 0
-From c m = (m .number ≡ c .number) × (m .before ≡ c .held)
-
-of-place : (s : List ℕ) (room : ℕ) (c : Point) (h : Hunted) → OfNext (From c) (nextBy s room c h)
-of-place s room c (hunted.Found p n) = (refl, refl)
-of-place s room c (hunted.Refused x) = tt
-
-next-from : (s : List ℕ) (room : ℕ) (c : Point) → OfNext (From c) (nextOf s room c)
-next-from s room c = of-place s room c (huntOf s (c .at))
 
 module _ (s : List ℕ) (room : ℕ) (c : Point) (map : List ℕ) (table : List (List ℕ)) {r : Step} where
   took-by : {map′ : List ℕ} {table′ : List (List ℕ)} (x : Next) → nextOf s room c ≡ x → r ≡ stepOf c x
