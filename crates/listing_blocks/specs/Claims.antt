@@ -60,8 +60,8 @@ Said number (rejected r its) =
 abbrev pub NothingIsLost : Type 0
 NothingIsLost = (s : List ℕ) → OfEach (λ m. Said (m .number) (m .reading)) (framesOf s 4368 start)
 
--- the text of blocks one after the other, each from where the one before was come to, is the listing: as many as a
--- capture has bytes are enough, if each has room for a full map
+-- the text of blocks one after the other up to the last, each from where the one before was come to, is the listing: as
+-- many as a capture has bytes are enough, if each has room for a full map
 abbrev pub ListingIsWhole : Type 0
 ListingIsWhole = (s : List ℕ) (size : ℕ) → 26208 ≤ size
     → blocks framed unchanged 26208 size (framesOf s 4368) (length s) tt start ≡ listingOf s

@@ -10,9 +10,9 @@ use Rattle.capture.specs.Worked.{bytes01}
 use Rattle.text.specs.Text.{letters}
 use Rattle.summary_blocks.specs.Summary.{framed, saidThen, headText, endText, summaryOf}
 
--- The first line, the text of blocks one after the other, each from where the one before was come to, and the last
--- lines by the number of the element come to are the summary: as many blocks as a capture has bytes are enough, if each
--- has room for 128 rows.
+-- The first line, the text of blocks one after the other up to the last, each from where the one before was come to,
+-- and the last lines by the number of the element come to are the summary: as many blocks as a capture has bytes are
+-- enough, if each has room for 128 rows.
 abbrev pub SummaryIsWhole : Type 0
 SummaryIsWhole = (s : List ℕ) (over : Bool) (size : ℕ) → 14336 ≤ size
     → headText
