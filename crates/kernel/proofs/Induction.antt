@@ -1,4 +1,4 @@
--- The one induction over elements: what holds of every walk, by what holds behind each of its steps.
+-- The one induction over the walks of elements: what holds of every walk, by what holds behind each of its steps.
 use mathlib.Core.Path.{_≡_, refl}
 use mathlib.Core.Bool.{Bool, true, false, cond}
 use mathlib.Core.List.{List, []}
