@@ -18,8 +18,8 @@ use Rattle.records.specs.declared.Stream.{Stream}
 use Rattle.records.specs.declared.Record.{Record}
 use Rattle.records.specs.Blank.{noStream}
 use Rattle.records.specs.Table.{streamsIn}
-use Rattle.records.specs.Valid.{validConfig, validSlot, validStream, validOf}
-use Rattle.records.proofs.Apart.{SlotOk, of-type-0, of-type-1, slot-valid, record-valid}
+use Rattle.records.specs.Valid.{validConfig, validFixed, validStream, validOf}
+use Rattle.records.proofs.Apart.{FixedOk, of-type-0, of-type-1, fixed-valid, record-valid}
 use Rattle.records.proofs.Tables.{streams-more, streams-end}
 use Rattle.numbers.proofs.Given.{Numbered, Wide, get-value, groups-from}
 use Rattle.asc.proofs.Given.{Configured, asc}
@@ -46,9 +46,9 @@ a-configuration version l =
 abbrev Streamed : ℕ → Stream → Type 0
 Streamed version s = validStream version s ≡ true
 
-streamed : (version kind fullness slot : ℕ) (c : Config) → Configured version c → SlotOk kind fullness slot
-    → Streamed version (record { config = c; kind = kind; fullness = fullness; fixed = slot })
-streamed version kind fullness slot c h k = rw (h, slot-valid kind fullness slot k)
+streamed : (version kind fullness fixed : ℕ) (c : Config) → Configured version c → FixedOk kind fullness fixed
+    → Streamed version (record { config = c; kind = kind; fullness = fullness; fixed = fixed })
+streamed version kind fullness fixed c h k = rw (h, fixed-valid kind fullness fixed k)
 
 frame-length : (version : ℕ) (c : Config) → Configured version c → Kept Numbered (Streamed version) (frameLength c)
 unfolding frameLength
@@ -83,7 +83,7 @@ config-before : (version next : ℕ) (ss : List Stream) → Filled version next 
     → Configured version (configAt ss (next - 1))
 config-before version next ss h n =
     let s = getD ss (next - 1) noStream in
-    both (validConfig version (s .config)) (validSlot (s .kind) (s .fullness) (s .fixed))
+    both (validConfig version (s .config)) (validFixed (s .kind) (s .fullness) (s .fixed))
     (h .sent (next - 1) (omega arith)) .0
 
 filled-more : (version next : ℕ) (ss : List Stream) (s : Stream) → next < 16 → Filled version next ss

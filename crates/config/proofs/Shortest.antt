@@ -49,9 +49,10 @@ config-end version p =
 
 -- ---- a stream
 
-slot-end : (c : Config) (p : ℕ) → Ends (λ s q. (s .config ≡ c) × (p + length (frameLengthBits s) ≤ q)) (frameLength c) p
+frame-length-end : (c : Config) (p : ℕ)
+    → Ends (λ s q. (s .config ≡ c) × (p + length (frameLengthBits s) ≤ q)) (frameLength c) p
 unfolding frameLength frameLengthBits
-slot-end c p =
+frame-length-end c p =
     end-field Open 3 _ λ t _ _.
     end-choose (eqb t 0) (λ _. end-field Open 8 _ λ v _ _.
     end-give (refl, simp (length-append, length-bitsOf) (omega arith)))
@@ -97,7 +98,7 @@ layer-end : (version next : ℕ) (before : Config) (p : ℕ)
 unfolding layer
 layer-end version next before p =
     end-on _ (first (eqb next 0)) λ c q h.
-    end-map (λ s r (e, k). omega (arith, layer-length version next before s, rw (sym e) at h)) (slot-end c q)
+    end-map (λ s r (e, k). omega (arith, layer-length version next before s, rw (sym e) at h)) (frame-length-end c q)
   where
     first : (t : Bool) → Ends (λ c q. p + cond t (length (configBits version c)) (saidLength version before c) ≤ q)
         (choose t (configuration version) (sentOrSame version before)) p

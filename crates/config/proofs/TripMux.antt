@@ -22,7 +22,7 @@ use Rattle.records.specs.declared.Record.{Record}
 use Rattle.records.specs.Blank.{noStream}
 use Rattle.records.specs.Same.{sameConfig}
 use Rattle.records.specs.Table.{streamsIn}
-use Rattle.records.specs.Valid.{validConfig, validSlot, validStream, validOf}
+use Rattle.records.specs.Valid.{validConfig, validFixed, validStream, validOf}
 use Rattle.config.specs.declared.Head.{Head}
 use Rattle.config.specs.declared.Ending.{Ending}
 use Rattle.config.specs.declared.Places.{Places}
@@ -33,7 +33,7 @@ use Rattle.config.specs.Mux.{layerBits, configAt, layers, layersBits, nu
 use Rattle.config.specs.Mux.{muxVersionA}
 use Rattle.config.specs.Mux.{muxHead, muxHeadBits, otherLength, muxEnding, muxEndingBits, noPlaces}
 use Rattle.config.specs.Mux.{streamMuxConfig, muxBits}
-use Rattle.records.proofs.Apart.{SlotOk, of-type-0, of-type-1, slot-ok, RecordOk, record-ok}
+use Rattle.records.proofs.Apart.{FixedOk, of-type-0, of-type-1, fixed-ok, RecordOk, record-ok}
 use Rattle.records.proofs.Tables.{streams-next, streams-upto, streams-end}
 use Rattle.records.proofs.Theorems.{same-means-equal}
 use Rattle.config.proofs.Begun.{begun, begun-more, begun-last, begun-all}
@@ -91,16 +91,16 @@ config-trip version c at l v = go (eqb version 1) refl
 
 -- ---- a stream
 
-slot-trip : (c : Config) (at kind fullness slot : ℕ) → SlotOk kind fullness slot
+frame-length-trip : (c : Config) (at kind fullness fixed : ℕ) → FixedOk kind fullness fixed
     → Reads Open at (frameLength c)
-    (frameLengthBits (record { config = c; kind = kind; fullness = fullness; fixed = slot }))
-    (record { config = c; kind = kind; fullness = fullness; fixed = slot })
+    (frameLengthBits (record { config = c; kind = kind; fullness = fullness; fixed = fixed }))
+    (record { config = c; kind = kind; fullness = fullness; fixed = fixed })
 unfolding frameLength frameLengthBits
-slot-trip c at kind fullness slot (of-type-0 e l z) =
+frame-length-trip c at kind fullness fixed (of-type-0 e l z) =
     rw (e, z) (reads-on 3 0 _ (omega arith) (reads-yes _ refl (reads-last 8 fullness _ (omega arith) reads-give)))
-slot-trip c at kind fullness slot (of-type-1 e z l) =
+frame-length-trip c at kind fullness fixed (of-type-1 e z l) =
     rw (e, z) (reads-on 3 1 _ (omega arith)
-    (reads-no _ refl (reads-yes _ refl (reads-last 9 slot _ (omega arith) reads-give))))
+    (reads-no _ refl (reads-yes _ refl (reads-last 9 fixed _ (omega arith) reads-give))))
 
 -- what is read as the stream before counts only after the first stream
 layer-trip : (version next : ℕ) (before last : Config) (s : Stream) (at : ℕ) → version ≤ 1
@@ -109,24 +109,26 @@ layer-trip : (version next : ℕ) (before last : Config) (s : Stream) (at : ℕ)
 unfolding layer layerBits sentOrSame
 layer-trip version next before last s at l b v = go (eqb next 0) refl (sameConfig last (s .config)) refl
   where
-    q : (validConfig version (s .config) ≡ true) × (validSlot (s .kind) (s .fullness) (s .fixed) ≡ true)
-    q = both (validConfig version (s .config)) (validSlot (s .kind) (s .fullness) (s .fixed)) v
+    q : (validConfig version (s .config) ≡ true) × (validFixed (s .kind) (s .fullness) (s .fixed) ≡ true)
+    q = both (validConfig version (s .config)) (validFixed (s .kind) (s .fullness) (s .fixed)) v
 
-    slot : (p : ℕ) → Reads Open p (frameLength (s .config)) (frameLengthBits s) s
-    slot p =
-        slot-trip (s .config) p (s .kind) (s .fullness) (s .fixed) (slot-ok (s .kind) (s .fullness) (s .fixed) (q .1))
+    frame-length : (p : ℕ) → Reads Open p (frameLength (s .config)) (frameLengthBits s) s
+    frame-length p =
+        frame-length-trip (s .config) p (s .kind) (s .fullness) (s .fixed)
+        (fixed-ok (s .kind) (s .fullness) (s .fixed) (q .1))
 
     go : (t : Bool) → eqb next 0 ≡ t → (u : Bool) → sameConfig last (s .config) ≡ u
         → Reads Open at (layer version next before) (layerBits version next last s) s
-    go true e u _ = rw e (reads-bind _ (reads-yes _ refl (config-trip version (s .config) at l (q .0))) (slot _))
+    go true e u _ =
+        rw e (reads-bind _ (reads-yes _ refl (config-trip version (s .config) at l (q .0))) (frame-length _))
     go false e true f =
         let z : before ≡ s .config = b e ∙ same-means-equal last (s .config) f in
         rw (e, f) (reads-bind _ (reads-no _ refl
-        (reads-last 1 1 _ (omega arith) (reads-yes _ refl (rw z reads-give)))) (slot _))
+        (reads-last 1 1 _ (omega arith) (reads-yes _ refl (rw z reads-give)))) (frame-length _))
     go false e false f =
         rw (e, f) (reads-bind _ (reads-no _ refl
         (reads-on 1 0 _ (omega arith) (reads-no _ refl (config-trip version (s .config) (at + 1) l (q .0)))))
-        (slot _))
+        (frame-length _))
 
 -- ---- the streams
 

@@ -37,9 +37,9 @@ unfolding slotFrom
 slot-from zero v = gives tt
 slot-from (suc n) v = on _ (a-field _ _) λ b _. either _ (λ _. slot-from n (v + 255)) (λ _. gives tt)
 
-slot : (kind size : ℕ) → Kept Numbered Any (slotOf kind size)
+slot : (kind fixed : ℕ) → Kept Numbered Any (slotOf kind fixed)
 unfolding slotOf muxSlotLengthBytes
-slot kind size = either _ (λ _. on _ (slot-from _ _) λ v _. gives tt) (λ _. gives tt)
+slot kind fixed = either _ (λ _. on _ (slot-from _ _) λ v _. gives tt) (λ _. gives tt)
 
 lengths : (ws : List ℕ) (ss : List Stream) → Kept Numbered Any (payloadLengthInfo ws (slotsOf ss))
 unfolding payloadLengthInfo

@@ -45,7 +45,7 @@ slot-is-unbounded = slot-unbounded
 
 pub slot-by-length-bytes : SlotByLengthBytes
 unfolding slotOf choose run
-slot-by-length-bytes s at n slot = kernel.bind-runs-as-parts muxSlotLengthBytes (λ v. give (8 * v)) s at n
+slot-by-length-bytes s at n fixed = kernel.bind-runs-as-parts muxSlotLengthBytes (λ v. give (8 * v)) s at n
 
 pub streams-are-all : StreamsAreAll
 streams-are-all = all-streams

@@ -90,7 +90,7 @@ SlotIsUnbounded =
 -- and by it the slot of a stream of frameLengthType 0 is read, in bits
 abbrev pub SlotByLengthBytes : Type 0
 SlotByLengthBytes =
-    (s : List ℕ) (at n slot : ℕ) → run s (slotOf 0 slot) at n
+    (s : List ℕ) (at n fixed : ℕ) → run s (slotOf 0 fixed) at n
     ≡ after (run s muxSlotLengthBytes at n) (λ v to m. gave (8 * v) to m)
 
 -- the streams of a record that 16 does not refuse are those of all its programs, numLayer + 1 of each; an array has 16

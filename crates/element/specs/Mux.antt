@@ -51,7 +51,7 @@ muxSlotLengthBytes = slotFrom 8192 0
 
 -- the bits of a stream's slot: of frameLengthType 0 by length bytes, of type 1 fixed
 unfoldable pub slotOf : ℕ → ℕ → Reading ℕ
-slotOf kind slot = choose (eqb kind 0) (muxSlotLengthBytes >>= λ v. give (8 * v)) (give (8 * (slot + 20)))
+slotOf kind fixed = choose (eqb kind 0) (muxSlotLengthBytes >>= λ v. give (8 * v)) (give (8 * (fixed + 20)))
 
 -- PayloadLengthInfo: of all streams, each slot by its reading, after those that are ws
 unfoldable pub payloadLengthInfo : List ℕ → List (Reading ℕ) → Reading (List ℕ)

@@ -16,8 +16,8 @@ use Rattle.records.specs.declared.Stream.{Stream}
 use Rattle.records.specs.declared.Record.{Record}
 use Rattle.records.specs.Blank.{noStream}
 use Rattle.records.specs.Table.{streamsIn}
-use Rattle.records.specs.Valid.{validConfig, validSlot, validOf}
-use Rattle.records.proofs.Apart.{SlotOk, of-type-0, of-type-1, slot-ok, record-ok}
+use Rattle.records.specs.Valid.{validConfig, validFixed, validOf}
+use Rattle.records.proofs.Apart.{FixedOk, of-type-0, of-type-1, fixed-ok, record-ok}
 use Rattle.element.specs.Mux.{muxSlotLengthBytes, slotOf, slotsOf, streamsOf, body}
 use Rattle.walk.specs.Plan.{slotBy, slotsBy, planned}
 use Rattle.walk.specs.Promises.{Planned}
@@ -25,23 +25,23 @@ use Rattle.walk.proofs.Turns.{next-one, widths-more}
 use Rattle.reader.specs.Parts.{fixedBits, fixedOf, Fixable, planOf}
 
 -- by its number a slot is read as by its type and frameLength
-slot-same : (kind slot : ℕ) → slotBy (fixedBits kind slot) ≡ slotOf kind slot
+slot-same : (kind fixed : ℕ) → slotBy (fixedBits kind fixed) ≡ slotOf kind fixed
 unfolding slotBy slotOf choose
-slot-same kind slot = go (eqb kind 0)
+slot-same kind fixed = go (eqb kind 0)
   where
     go : (t : Bool)
-        → slotBy (cond t 0 (8 * (slot + 20)))
-        ≡ choose t (muxSlotLengthBytes >>= λ v. give (8 * v)) (give (8 * (slot + 20)))
+        → slotBy (cond t 0 (8 * (fixed + 20)))
+        ≡ choose t (muxSlotLengthBytes >>= λ v. give (8 * v)) (give (8 * (fixed + 20)))
     go true = refl
-    go false = rw (ne-eqb (8 * (slot + 20)) 0 (λ q. omega arith))
+    go false = rw (ne-eqb (8 * (fixed + 20)) 0 (λ q. omega arith))
 
 slots-same : (ss : List Stream) → slotsBy (map fixedOf ss) ≡ slotsOf ss
 slots-same [] = refl
 slots-same (s ∷ ss) = rw (slot-same (s .kind) (s .fixed), slots-same ss)
 
-small-slot : (kind fullness slot : ℕ) → SlotOk kind fullness slot → slot ≤ 511
-small-slot kind fullness slot (of-type-0 k f s) = omega arith
-small-slot kind fullness slot (of-type-1 k f s) = s
+small-fixed : (kind fullness fixed : ℕ) → FixedOk kind fullness fixed → fixed ≤ 511
+small-fixed kind fullness fixed (of-type-0 k f s) = omega arith
+small-fixed kind fullness fixed (of-type-1 k f s) = s
 
 module _ (r : Record) (h : validOf r ≡ true) where
   abbrev n : ℕ
@@ -54,8 +54,8 @@ module _ (r : Record) (h : validOf r ≡ true) where
   fixable i l =
       let s = getD (r .streams) i noStream in
       let t = validConfig (r .version) (s .config) in
-      let v = both t (validSlot (s .kind) (s .fullness) (s .fixed)) (record-ok r h .streams i l) in
-      small-slot (s .kind) (s .fullness) (s .fixed) (slot-ok (s .kind) (s .fullness) (s .fixed) (v .1))
+      let v = both t (validFixed (s .kind) (s .fullness) (s .fixed)) (record-ok r h .streams i l) in
+      small-fixed (s .kind) (s .fullness) (s .fixed) (fixed-ok (s .kind) (s .fullness) (s .fixed) (v .1))
 
   -- no stream is valid behind the last
   enough : n ≤ length (r .streams)

@@ -16,7 +16,7 @@ use Rattle.walk.specs.Parts.{fronted}
 
 -- the bits of slots that are fixed; of those by length bytes 0
 abbrev pub fixedBits : ℕ → ℕ → ℕ
-fixedBits kind slot = cond (eqb kind 0) 0 (8 * (slot + 20))
+fixedBits kind fixed = cond (eqb kind 0) 0 (8 * (fixed + 20))
 
 abbrev pub fixedOf : Stream → ℕ
 fixedOf s = fixedBits (s .kind) (s .fixed)

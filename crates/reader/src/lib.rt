@@ -59,14 +59,14 @@ fn usable_held(present: bool, config: Record) -> bool
 }
 
 // The bits of a stream's slots where they are fixed, by its frameLengthType and frameLength; else 0.
-fn fixed_bits(kind: u32, slot: u32) -> u32
-    requires { ⌜ slot ≤ 511 ⌝ }
-    ensures { λ r. ⌜ r ≡ fixedBits kind slot ⌝ }
+fn fixed_bits(kind: u32, fixed: u32) -> u32
+    requires { ⌜ fixed ≤ 511 ⌝ }
+    ensures { λ r. ⌜ r ≡ fixedBits kind fixed ⌝ }
 {
     if kind == 0 {
         return 0;
     }
-    8 * (slot + 20)
+    8 * (fixed + 20)
 }
 
 // Those of n streams; zeros stand where there is none.

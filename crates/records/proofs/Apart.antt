@@ -17,7 +17,7 @@ use Rattle.records.specs.declared.Stream.{Stream}
 use Rattle.records.specs.declared.Record.{Record}
 use Rattle.records.specs.Blank.{noStream}
 use Rattle.records.specs.Table.{streamsIn}
-use Rattle.records.specs.Valid.{validFreq, validForm, validConfig, validSlot, validStream, blankFreq, blankForm}
+use Rattle.records.specs.Valid.{validFreq, validForm, validConfig, validFixed, validStream, blankFreq, blankForm}
 use Rattle.records.specs.Valid.{blankStream, layersOk, streamsOk, headOk, endingOk, validOf}
 
 -- ---- a configuration
@@ -63,25 +63,25 @@ config-valid version c h =
 
 -- ---- a stream
 
-pub data SlotOk (kind fullness slot : ℕ) : Type 0 where
-  of-type-0 : kind ≡ 0 → fullness ≤ 255 → slot ≡ 0 → SlotOk kind fullness slot
-  of-type-1 : kind ≡ 1 → fullness ≡ 0 → slot ≤ 511 → SlotOk kind fullness slot
+pub data FixedOk (kind fullness fixed : ℕ) : Type 0 where
+  of-type-0 : kind ≡ 0 → fullness ≤ 255 → fixed ≡ 0 → FixedOk kind fullness fixed
+  of-type-1 : kind ≡ 1 → fullness ≡ 0 → fixed ≤ 511 → FixedOk kind fullness fixed
 
-slot-of : (kind fullness slot : ℕ) (t : Bool) → (eqb kind 0 && leb fullness 255 && eqb slot 0) ≡ t
-    → (t || (eqb kind 1 && eqb fullness 0 && leb slot 511)) ≡ true → SlotOk kind fullness slot
-slot-of kind fullness slot true e h =
-    let q = three (eqb kind 0) (leb fullness 255) (eqb slot 0) e in
-    of-type-0 (eqb-true kind 0 (q .0)) (leb-true fullness 255 (q .1)) (eqb-true slot 0 (q .2))
-slot-of kind fullness slot false e h =
-    let q = three (eqb kind 1) (eqb fullness 0) (leb slot 511) h in
-    of-type-1 (eqb-true kind 1 (q .0)) (eqb-true fullness 0 (q .1)) (leb-true slot 511 (q .2))
+fixed-of : (kind fullness fixed : ℕ) (t : Bool) → (eqb kind 0 && leb fullness 255 && eqb fixed 0) ≡ t
+    → (t || (eqb kind 1 && eqb fullness 0 && leb fixed 511)) ≡ true → FixedOk kind fullness fixed
+fixed-of kind fullness fixed true e h =
+    let q = three (eqb kind 0) (leb fullness 255) (eqb fixed 0) e in
+    of-type-0 (eqb-true kind 0 (q .0)) (leb-true fullness 255 (q .1)) (eqb-true fixed 0 (q .2))
+fixed-of kind fullness fixed false e h =
+    let q = three (eqb kind 1) (eqb fullness 0) (leb fixed 511) h in
+    of-type-1 (eqb-true kind 1 (q .0)) (eqb-true fullness 0 (q .1)) (leb-true fixed 511 (q .2))
 
-pub slot-ok : (kind fullness slot : ℕ) → validSlot kind fullness slot ≡ true → SlotOk kind fullness slot
-slot-ok kind fullness slot h = slot-of kind fullness slot (eqb kind 0 && leb fullness 255 && eqb slot 0) refl h
+pub fixed-ok : (kind fullness fixed : ℕ) → validFixed kind fullness fixed ≡ true → FixedOk kind fullness fixed
+fixed-ok kind fullness fixed h = fixed-of kind fullness fixed (eqb kind 0 && leb fullness 255 && eqb fixed 0) refl h
 
-pub slot-valid : (kind fullness slot : ℕ) → SlotOk kind fullness slot → validSlot kind fullness slot ≡ true
-slot-valid kind fullness slot (of-type-0 e l z) = rw (e, z, le-leb fullness 255 l)
-slot-valid kind fullness slot (of-type-1 e z l) = rw (e, z, le-leb slot 511 l)
+pub fixed-valid : (kind fullness fixed : ℕ) → FixedOk kind fullness fixed → validFixed kind fullness fixed ≡ true
+fixed-valid kind fullness fixed (of-type-0 e l z) = rw (e, z, le-leb fullness 255 l)
+fixed-valid kind fullness fixed (of-type-1 e z l) = rw (e, z, le-leb fixed 511 l)
 
 blank-freq : (x : Freq) → blankFreq x ≡ true → x ≡ Index 0
 blank-freq (Index i) h = ap Index (eqb-true i 0 h)

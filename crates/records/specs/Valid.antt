@@ -37,12 +37,12 @@ validConfig version c =
     && validFreq (c .freq) && validForm version (c .form)
 
 -- 13: type 0 with latmBufferFullness, or type 1 with frameLength
-abbrev pub validSlot : ℕ → ℕ → ℕ → Bool
-validSlot kind fullness slot =
-    (eqb kind 0 && leb fullness 255 && eqb slot 0) || (eqb kind 1 && eqb fullness 0 && leb slot 511)
+abbrev pub validFixed : ℕ → ℕ → ℕ → Bool
+validFixed kind fullness fixed =
+    (eqb kind 0 && leb fullness 255 && eqb fixed 0) || (eqb kind 1 && eqb fullness 0 && leb fixed 511)
 
 abbrev pub validStream : ℕ → Stream → Bool
-validStream version s = validConfig version (s .config) && validSlot (s .kind) (s .fullness) (s .fixed)
+validStream version s = validConfig version (s .config) && validFixed (s .kind) (s .fullness) (s .fixed)
 
 abbrev pub blankFreq : Freq → Bool
 blankFreq (Index i) = eqb i 0

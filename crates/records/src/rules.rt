@@ -1,6 +1,6 @@
 // What 16 refuses, from the leaves up.
 ghost use mathlib.Core.Path.{_≡_};
-ghost use Rattle.records.specs.Valid.{validFreq, validForm, validConfig, validSlot, validStream, blankFreq};
+ghost use Rattle.records.specs.Valid.{validFreq, validForm, validConfig, validFixed, validStream, blankFreq};
 ghost use Rattle.records.specs.Valid.{blankForm, blankStream};
 ghost use Rattle.records.specs.Valid.{streamOk, streamsOk, layerOk, layersOk, headOk, endingOk, validOf};
 use crate::Config;
@@ -47,17 +47,17 @@ fn valid_config(version: u32, c: Config) -> bool
     numbers & valid_freq(x) & valid_form(version, f)
 }
 
-fn valid_slot(kind: u32, fullness: u32, slot: u32) -> bool
-    ensures { λ r. ⌜ r ≡ validSlot kind fullness slot ⌝ }
+fn valid_fixed(kind: u32, fullness: u32, fixed: u32) -> bool
+    ensures { λ r. ⌜ r ≡ validFixed kind fullness fixed ⌝ }
 {
-    ((kind == 0) & (fullness <= 255) & (slot == 0))
-        | ((kind == 1) & (fullness == 0) & (slot <= 511))
+    ((kind == 0) & (fullness <= 255) & (fixed == 0))
+        | ((kind == 1) & (fullness == 0) & (fixed <= 511))
 }
 
 fn valid_stream(version: u32, s: Stream) -> bool
     ensures { λ r. ⌜ r ≡ validStream version s ⌝ }
 {
-    valid_config(version, s.config) & valid_slot(s.kind, s.fullness, s.fixed)
+    valid_config(version, s.config) & valid_fixed(s.kind, s.fullness, s.fixed)
 }
 
 fn blank_freq(f: Freq) -> bool

@@ -15,7 +15,7 @@ use Rattle.records.specs.declared.Form.the-variants.{None, Type5, Type29, Flag0
 use Rattle.records.specs.declared.Stream.{Stream}
 use Rattle.records.specs.Blank.{noStream}
 use Rattle.records.specs.Table.{streamsIn}
-use Rattle.records.specs.Valid.{validFreq, validForm, validConfig, validSlot, validStream}
+use Rattle.records.specs.Valid.{validFreq, validForm, validConfig, validFixed, validStream}
 use Rattle.records.proofs.Apart.{config-ok, record-ok}
 use Rattle.records.proofs.Tables.{streams-next, streams-upto}
 use Rattle.row.specs.Row.{hzAt, hzOf, outputOf, outputChannels, rowOf}
@@ -55,7 +55,7 @@ stream-carried : (version p l : ℕ) (s : Stream) → p < 16 → l < 8 → valid
 stream-carried version p l s hp hl h =
     let c =
     config-ok version (s .config)
-    (both (validConfig version (s .config)) (validSlot (s .kind) (s .fullness) (s .fixed)) h .0) in
+    (both (validConfig version (s .config)) (validFixed (s .kind) (s .fullness) (s .fixed)) h .0) in
     let f = freq-carried (s .config .freq) (c .freq) in
     record {
       program = hp;
