@@ -40,8 +40,9 @@ programs-once version last s at n x y t t₁ t₂ p q =
 
 pub mux-once : MuxOnce
 mux-once s at n x y t t₁ t₂ p q =
-    let e = beside-once noRecord s streamMuxConfig at n (x .reached) (y .reached) (x .held) (y .held) (p .0) (q .0) in (
-      λ i. record { reached = e .0 i; held = e .1 i },
+    let e = beside-once noRecord s streamMuxConfig at n (x .reached) (y .reached) (x .config) (y .config)
+    (p .0) (q .0) in (
+      λ i. record { reached = e .0 i; config = e .1 i },
       p .1
           ∙ (λ i. tableAfter (e .0 i) t (e .1 i .layers) (e .1 i .programs)) ∙ sym (q .1),
     )

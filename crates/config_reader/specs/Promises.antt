@@ -26,5 +26,5 @@ ProgramsPromise version last s at n table r table′ =
 -- `stream_mux_config`, with the table before and after it
 abbrev pub MuxPromise : List ℕ → ℕ → ℕ → List (List ℕ) → Mux → List (List ℕ) → Type 0
 MuxPromise s at n table r table′ =
-    TellsBeside noRecord s streamMuxConfig at n (r .reached) (r .held)
-    × (table′ ≡ tableAfter (r .reached) table (r .held .layers) (r .held .programs))
+    TellsBeside noRecord s streamMuxConfig at n (r .reached) (r .config)
+    × (table′ ≡ tableAfter (r .reached) table (r .config .layers) (r .config .programs))

@@ -56,16 +56,16 @@ pub struct Placed {
 // What was reached, beside the record of a whole StreamMuxConfig.
 pub struct Mux {
     pub reached: Reached,
-    pub held: Record,
+    pub config: Record,
 }
 
 fn refused_mux(x: Refusal) -> Mux
-    ensures { λ r. ⌜ (r .reached ≡ Refused x) × (r .held ≡ noRecord) ⌝ }
+    ensures { λ r. ⌜ (r .reached ≡ Refused x) × (r .config ≡ noRecord) ⌝ }
 {
     let blank = no_record();
     Mux {
         reached: Reached::Refused(x),
-        held: blank,
+        config: blank,
     }
 }
 
@@ -93,7 +93,7 @@ pub fn stream_mux_config(el: &[u8], c: Cursor, table: &mut [[u8; 8]; 16]) -> Mux
     requires { ⌜ Stands (now el) (c .at) (c .fields) ⌝ }
     ensures told { λ r. ⌜ MuxPromise (now (el .entry)) (c .at) (c .fields) (now (table .entry)) r
         (now (table .exit)) ⌝ }
-    ensures few { λ r. ⌜ IfReached (r .reached) (Few (r .held)) ⌝ }
+    ensures few { λ r. ⌜ IfReached (r .reached) (Few (r .config)) ⌝ }
 {
     let headed = match head_of(el, c) {
         Headed::Value(r) => r,
@@ -115,11 +115,11 @@ pub fn stream_mux_config(el: &[u8], c: Cursor, table: &mut [[u8; 8]; 16]) -> Mux
     let ending = ended.ending;
     let layers = placed.layers;
     let streams = placed.streams;
-    let held = record_of(head, layers, streams, ending);
+    let config = record_of(head, layers, streams, ending);
     let next = ended.next;
     *table = cells;
     Mux {
         reached: Reached::To(next),
-        held: held,
+        config: config,
     }
 }

@@ -164,7 +164,7 @@ fn with_sent(
         Reached::To(to) => to,
         Reached::Refused(x) => return unsent(Verdict::Refused(x), prepared),
     };
-    let r = mux.held;
+    let r = mux.config;
     let plan = plan_of(r);
     let verdict = finish(el, plan, true, c1, map);
     match verdict {

@@ -18,11 +18,11 @@ use Rattle.reader.proofs.with_sent.Tie as tie
 -- the configuration that was read
 ran : (f : tie.After-reached) → let g = f .before .before in let a = g .before .before .before .before .args in
     told (run (a .el .now) streamMuxConfig (a .c .at) (a .c .fields))
-    ≡ value (g .stream-mux-config .result .held) (f .reached .given .0 .0 .at) (f .reached .given .0 .0 .fields)
+    ≡ value (g .stream-mux-config .result .config) (f .reached .given .0 .0 .at) (f .reached .given .0 .0 .fields)
 ran f =
     let g = f .before .before in
     sym (g .stream-mux-config .ensures .0 .0 .0)
-    ∙ ap (toldWith (g .stream-mux-config .result .held)) (f .reached .given .1)
+    ∙ ap (toldWith (g .stream-mux-config .result .config)) (f .reached .given .1)
 
 returns : tie.Need-returns
 returns c =
@@ -31,7 +31,7 @@ returns c =
     let a = g .before .before .before .before .args in
     let q = sent-refused (a .el .now) (a .c .at) (a .c .fields) (a .prepared) (a .map .now) (a .table .now) _
     (sym (g .stream-mux-config .ensures .0 .0 .0)
-    ∙ ap (toldWith (g .stream-mux-config .result .held)) (f .reached2 .given .1)) in
+    ∙ ap (toldWith (g .stream-mux-config .result .config)) (f .reached2 .given .1)) in
     (c .unsent .ensures ∙ q .0, q .1, q .2)
 
 plan-of-requires : tie.Need-plan-of-requires
@@ -47,7 +47,7 @@ finish-requires c κs =
     let s = f .before .before .before .before .before .before in
     let a = s .args in
     let ok = sent-valid (a .el .now) (a .c .at) (a .c .fields) (ran f) in (
-      rw (pl .plan-of .ensures) (plan-fits (f .before .before .stream-mux-config .result .held) ok),
+      rw (pl .plan-of .ensures) (plan-fits (f .before .before .stream-mux-config .result .config) ok),
       s .pre .0,
       omega (arith, s .pre .1, sent-forward (a .el .now) (a .c .at) (a .c .fields) (ran f)),
       sent-steady (a .el .now) (a .c .at) (a .c .fields) (ran f) (s .pre .2),
@@ -57,7 +57,7 @@ finish-requires c κs =
 left : (t : tie.After-finish) → let pl = t .before .before in let g = pl .before .before .before .before .before in
     let a = g .before .before .before .before .args in
     Left (a .el .now) (a .c .at) (a .c .fields) (a .prepared) (a .map .now) (a .table .now)
-    (g .stream-mux-config .result .held) (pl .plan-of .result) (t .finish .last .1 .1 .1 .1 .0)
+    (g .stream-mux-config .result .config) (pl .plan-of .result) (t .finish .last .1 .1 .1 .1 .0)
     (sentOf (a .el .now) (a .c .at) (a .c .fields)) (t .finish .result)
 left t =
     let pl = t .before .before in
@@ -77,7 +77,7 @@ returns-2 c =
     let l = rw q at (left t) in
     let p : Prepared = record { usable = true; plan = pl .plan-of .result } in
     let filled = rw (f .reached .given .1) at (g .ensures .0 .1) in (
-      ap (λ (v : Verdict). record { verdict = v; sent = g .result .held; prepared = p }) q ∙ l .0,
+      ap (λ (v : Verdict). record { verdict = v; sent = g .result .config; prepared = p }) q ∙ l .0,
       l .1,
       filled ∙ l .2,
     )
