@@ -33,7 +33,7 @@ fn byte_at(s: &[u8], i: usize) -> usize
 }
 
 fn marked(s: &[u8], p: usize) -> bool
-    requires { ⌜ p ≤ 100000 ⌝ }
+    requires { ⌜ p + 2 ≤ 1000000 ⌝ }
     ensures { λ r. ⌜ r ≡ marked (now (s .entry)) p ⌝ }
 {
     if byte_at(s, p) == 0x56 {
@@ -43,7 +43,7 @@ fn marked(s: &[u8], p: usize) -> bool
 }
 
 fn size_at(s: &[u8], p: usize) -> usize
-    requires { ⌜ p ≤ 65536 ⌝ }
+    requires { ⌜ p + 2 ≤ 1000000 ⌝ }
     ensures is { λ r. ⌜ r ≡ sizeAt (now (s .entry)) p ⌝ }
     ensures small { λ r. ⌜ r ≤ 8191 ⌝ }
 {
@@ -51,7 +51,7 @@ fn size_at(s: &[u8], p: usize) -> usize
 }
 
 fn frame_at(s: &[u8], p: usize) -> bool
-    requires { ⌜ p ≤ 65536 ⌝ }
+    requires { ⌜ p + 8196 ≤ 1000000 ⌝ }
     ensures { λ r. ⌜ r ≡ frameAt (now (s .entry)) p ⌝ }
 {
     if marked(s, p) {
