@@ -63,7 +63,7 @@ fn bits_at(el: &[u8], at: usize, width: usize) -> u32
 
 // Bits that the element has, from byte `at` of out on, with zeros behind them up to a byte; the bit behind.
 fn copy_bits(el: &[u8], first: usize, width: usize, out: &mut [u8], at: usize) -> usize
-    requires { ⌜ (first + width ≤ 8 * length (now el)) × (length (now el) ≤ 8191) × (at ≤ 50000) ⌝ }
+    requires { ⌜ (first + width ≤ 8 * length (now el)) × (length (now el) ≤ 8191) × (8 * at + 65528 ≤ 1000000) ⌝ }
     ensures { λ r. ⌜ (r ≤ 8 * at + 65528) × (r % 8 ≡ 0)
         × Put (now (out .entry)) (8 * at) (padded (now (el .entry)) first width) (now (out .exit)) r ⌝ }
 {
@@ -81,7 +81,7 @@ fn copy_bits(el: &[u8], first: usize, width: usize, out: &mut [u8], at: usize) -
 // The bits of an item, from byte `at` of out on, packed from the top bit, with zeros behind them up to a
 // byte; the byte behind.
 pub fn copy_item(el: &[u8], it: Item, out: &mut [u8], at: usize) -> usize
-    requires { ⌜ at ≤ 50000 ⌝ }
+    requires { ⌜ 8 * at + 65528 ≤ 1000000 ⌝ }
     ensures { λ r. ⌜ (r ≤ at + 8191)
         × Put (now (out .entry)) (8 * at) (copied (now (el .entry)) it) (now (out .exit)) (8 * r) ⌝ }
 {
