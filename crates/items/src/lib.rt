@@ -1,6 +1,6 @@
 // The map of an element read back, and the bits of its items copied.
 ghost use mathlib.Core.Path.{_≡_};
-ghost use Prim.Native.Nat.{_+_, _*_, _%_, _≤_, min};
+ghost use Prim.Native.Nat.{_+_, _*_, _%_, _≤_};
 ghost use lib.ListN.{length};
 ghost use Rattle.kernel.specs.Bits.{valueAt, Put};
 ghost use Rattle.items.specs.Items.{itemAt};
@@ -9,6 +9,7 @@ use kernel::Cursor;
 use kernel::Fetched;
 use kernel::Window;
 use kernel::fetch;
+use kernel::least;
 use kernel::put;
 
 // Kind, stream, first bit and width.
@@ -38,15 +39,6 @@ pub fn item_at(map: &[u32], i: usize) -> Item
         first: 0,
         width: 0,
     }
-}
-
-fn least(a: usize, b: usize) -> usize
-    ensures { λ r. ⌜ r ≡ min a b ⌝ }
-{
-    if a < b {
-        return a;
-    }
-    b
 }
 
 // Up to 8 bits that the element has.

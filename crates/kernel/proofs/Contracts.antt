@@ -8,6 +8,7 @@ use Rattle.kernel.proofs.unread.Reads as unread
 use Rattle.kernel.proofs.fetch.Reads as fetch
 use Rattle.kernel.proofs.why.Reads as why
 use Rattle.kernel.proofs.skip.Reads as skip
+use Rattle.kernel.proofs.least.Reads as least
 use Rattle.kernel.proofs.put.Reads as put
 use Rattle.kernel.proofs.put_bytes.Reads as put-bytes
 use Rattle.kernel.proofs.put_some.Reads as put-some
@@ -28,6 +29,9 @@ why-allows-one k a x y e f p q = p ∙ sym q
 
 pub skip-allows-one : AllowsOne skip.Learnt (λ k r e. r)
 skip-allows-one k a x y e f p q = reached-once _ _ _ _ x y p q
+
+pub least-allows-one : AllowsOne least.Learnt (λ k r e. r)
+least-allows-one k a x y e f p q = p ∙ sym q
 
 pub put-allows-one : AllowsOneOfBytes put.Learnt (λ k e. now (e .0))
 put-allows-one k a x y e f g h p q = put-fixes-all _ _ _ _ _ x y g h (p .1) (q .1)

@@ -10,6 +10,7 @@ use element::Verdict;
 use items::Item;
 use items::copy_item;
 use items::item_at;
+use kernel::least;
 use records::Record;
 use sync::Framed;
 use sync::element_at;
@@ -95,15 +96,6 @@ fn write_anew(
             io::write_all(1, &frame[..m]);
         }
     }
-}
-
-fn least(a: usize, b: usize) -> usize
-    ensures { λ r. ⌜ (r ≤ a) × (r ≤ b) ⌝ }
-{
-    if a < b {
-        return a;
-    }
-    b
 }
 
 // What was read of one element, taken out slot by slot and written anew.
