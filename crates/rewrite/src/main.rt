@@ -98,39 +98,8 @@ fn write_anew(
     }
 }
 
-// What was read of one element, taken out slot by slot and written anew.
+// What was read of one element, taken out slot by slot and written anew; nothing of one that was refused.
 fn take_out(
-    el: &[u8],
-    map: &[u32],
-    items: usize,
-    sent: bool,
-    r: Record,
-    lengths: &mut [u32],
-    payload: &mut [u8],
-    other: &mut [u8],
-    out: &mut [u8],
-    frame: &mut [u8],
-)
-    requires { ⌜ (length (now lengths) ≡ 1092) × (length (now payload) ≡ 8192) × (length (now other) ≡ 8192)
-        × (length (now out) ≡ 8192) × (length (now frame) ≡ 8200) ⌝ }
-{
-    let k = least(items, 1092);
-    let n = slots_of(map, k, lengths);
-    let p = least(copy_kind(el, map, k, 4, payload), 8192);
-    let o = least(copy_kind(el, map, k, 5, other), 8192);
-    write_anew(
-        r,
-        sent,
-        &lengths[..n],
-        &payload[..p],
-        &other[..o],
-        out,
-        frame,
-    );
-}
-
-// One element that was read; nothing of one that was refused.
-fn one(
     el: &[u8],
     v: Verdict,
     r: Record,
@@ -147,20 +116,22 @@ fn one(
     let Verdict::Accepted(items, _, sent) = v else {
         return;
     };
-    take_out(
-        el,
-        map,
-        items as usize,
-        sent,
+    let k = least(items as usize, 1092);
+    let n = slots_of(map, k, lengths);
+    let p = least(copy_kind(el, map, k, 4, payload), 8192);
+    let o = least(copy_kind(el, map, k, 5, other), 8192);
+    write_anew(
         r,
-        lengths,
-        payload,
-        other,
+        sent,
+        &lengths[..n],
+        &payload[..p],
+        &other[..o],
         out,
         frame,
     );
 }
 
+// Each element of the capture in turn; the buffers are lent.
 fn all(
     capture: &[u8],
     map: &mut [u32],
@@ -185,7 +156,7 @@ fn all(
         reached = holding_behind(reached, step);
         let held = reached.held;
         let el = element_at(capture, p, n);
-        one(el, v, held.config, map, lengths, payload, other, out, frame);
+        take_out(el, v, held.config, map, lengths, payload, other, out, frame);
     }
 }
 

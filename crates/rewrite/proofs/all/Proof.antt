@@ -44,7 +44,7 @@ taken f =
     (a .advance .ensures) (l .loop .inv .map-room) _ _ _ (f .found .given .1)
 
 -- what a turn wrote, and the frame that it was of
-abbrev written : tie.After-slice-known12 Inv-loop μ-loop → tie.After-one Inv-loop μ-loop
+abbrev written : tie.After-slice-known12 Inv-loop μ-loop → tie.After-take-out Inv-loop μ-loop
 written c = c .before .before .before .before .before .before .before .before .before .before
 
 abbrev found : tie.After-slice-known12 Inv-loop μ-loop → tie.After-found Inv-loop μ-loop
@@ -67,8 +67,8 @@ advance-requires c κs =
     let l = c .before .before .before in
     record { point = pointOf (l .loop .reached); is = whole-mark (l .loop .reached) (l .loop .inv .whole) }
 
-one-requires : tie.Need-one-requires Inv-loop μ-loop
-one-requires c κs =
+take-out-requires : tie.Need-take-out-requires Inv-loop μ-loop
+take-out-requires c κs =
     let f = c .before .before .before .before .before .before .before .before .before .before in
     let i = f .before .before .before .before .before .before .before .before .loop .inv in
     (i .lengths-room, i .payload-room, i .other-room, i .out-room, i .frame-room)
@@ -91,7 +91,7 @@ loop-again c =
     let l = a .before .before .before .before in
     let i = l .loop .inv in
     let b = written c .before .before .before .before .before .before .before .before .before in
-    let k = written c .one .kept .1 .1 .1 .1 in
+    let k = written c .take-out .kept .1 .1 .1 .1 in
     record {
       map-room = omega (arith, a .advance .kept .1 .1 .0, i .map-room);
       lengths-room = omega (arith, k .0, i .lengths-room);
@@ -114,4 +114,4 @@ all-spec =
     (λ c. omega (arith, looped c .loop .inv .other-room, began c .pre .3))
     (λ c. omega (arith, looped c .loop .inv .out-room, began c .pre .4))
     (λ c. omega (arith, looped c .loop .inv .frame-room, began c .pre .5))
-    (λ c. search needs) (λ c κs. search needs) (λ c κs. search needs) one-requires loop-less loop-again)
+    (λ c. search needs) (λ c κs. search needs) (λ c κs. search needs) take-out-requires loop-less loop-again)
