@@ -154,7 +154,8 @@ module _ {S : Type 0} (text : S → Seen → List ℕ) (after : S → Seen → S
           let b = blockOf text after most size x (framesOf s room c) in
           let n = fewer x (framesOf s room c) (length (framesOf s room (behindAll c b))) k h
           (ap length (block-then x c) ∙ length-append b _) l in
-          laid-next k x c (isLast text after most size x b) refl (all-laid k (afterAll text after x b) (behindAll c b) h n)
+          laid-next k x c (isLast text after most size x b) refl
+          (all-laid k (afterAll text after x b) (behindAll c b) h n)
 
       pub whole : (x : S) (c : Point) → most ≤ size
           → blocks text after most size (framesOf s room) (length s) x c ≡ textOf text after x (framesOf s room c)

@@ -103,7 +103,7 @@ module _ (s : List ℕ) (room : ℕ) where
       let e : length s + k ≡ k + length s = omega arith in
       sym (all-frames k (length s) c (omega arith)) ∙ ap (λ (n : ℕ). framesFrom s room n c) e ∙ two-goes k (length s) c
 
-  -- the induction over frames: what holds of none of them, and with the next one in front, holds of as many as there are
+  -- the induction over frames: what holds of none of them, and with the next one in front, holds of any number
   module _ (P : Point → List Seen → Type 0) (of-none : (c : Point) → P c [])
       (of-next : (c : Point) (m : Seen) (ms : List Seen) → nextOf s room c ≡ frame m → P (behind m) ms
       → P c (m ∷ ms)) where

@@ -19,7 +19,8 @@ use Rattle.capture.specs.Frames.{framesFrom, start}
 use Rattle.capture.specs.Blocks.{textOf}
 use Rattle.capture.proofs.Theorems.{blocks-are-whole}
 use Rattle.listing_blocks.specs.Listing.{itemLines, framed, unchanged}
-use Rattle.listing_blocks.specs.Claims.{WorkedListing, LettersOfKinds, LetterOfRefusal, NothingIsLost, ListingIsWhole}
+use Rattle.listing_blocks.specs.Claims.{WorkedListing, LettersOfKinds, LetterOfRefusal, NothingIsLost}
+use Rattle.listing_blocks.specs.Claims.{ListingIsWhole}
 use Rattle.listing_blocks.proofs.Digits.{all-said}
 
 pub worked-listing : WorkedListing
