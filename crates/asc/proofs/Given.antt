@@ -7,8 +7,8 @@ use lib.Dec.{leb, eqb}
 use borrow.Author.Tests.{leb-true, le-leb, eqb-true}
 use Rattle.kernel.specs.declared.Window.{Window}
 use Rattle.kernel.specs.declared.Window.the-variants.{Open, UpTo}
-use Rattle.kernel.proofs.Kept.{chosen, Any, Kept, gives, refuses, refuses-after, either, a-field, a-place, a-need, on}
-use Rattle.kernel.proofs.Kept.{then}
+use Rattle.kernel.proofs.Kept.{Numbered, chosen, Any, Kept, gives, refuses, refuses-after, either, a-field, a-place}
+use Rattle.kernel.proofs.Kept.{a-need, on, then}
 use Rattle.kernel.proofs.Tests.{both}
 use Rattle.records.specs.declared.Freq.{Freq}
 use Rattle.records.specs.declared.Form.{Form}
@@ -19,7 +19,6 @@ use Rattle.asc.specs.declared.Flags.{Flags}
 use Rattle.asc.specs.Asc.{isCore, isFront, objectType, anyType, hertz, frequency, channelConfiguration, unset}
 use Rattle.asc.specs.Asc.{psExtension, psTail, sbrExtension, extensionType, syncExtension, tail, inFront}
 use Rattle.asc.specs.Asc.{gaSpecificConfig, configOf, alone, underFront, audioSpecificConfig}
-use Rattle.numbers.proofs.Given.{Numbered}
 
 -- ---- frequencies, types and flags
 

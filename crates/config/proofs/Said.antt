@@ -1,7 +1,7 @@
 -- What is written of one stream, in its place among the others, and what its first bit says.
 use mathlib.Core.Path.{_≡_, refl, _∙_}
 use mathlib.Core.Bool.{Bool, true, false, cond}
-use mathlib.Core.List.{List, _∷_, _++_, append-assoc}
+use mathlib.Core.List.{List, [], _∷_, _++_, append-assoc}
 use Prim.Native.Nat.{ℕ, zero, suc, _+_, _-_, _≤_}
 use native.Mathlib.Nat.{zero-add, add-zero}
 use native.Mathlib.Omega.{arith}
@@ -9,6 +9,7 @@ use borrow.Author.Tests.{ne-eqb}
 use lib.ListN.{getD}
 use Rattle.kernel.specs.Exactly.{Exactly}
 use Rattle.kernel.specs.Bits.{bitsOf, odd}
+use Rattle.kernel.proofs.Lists.{Begins}
 use Rattle.records.specs.declared.Config.{Config}
 use Rattle.records.specs.declared.Stream.{Stream}
 use Rattle.records.specs.declared.Record.{Record}
@@ -55,16 +56,13 @@ module _ (version : ℕ) (ss : List Stream) where
 
 -- ---- the first bit of a stream's
 
-record Begins (b : List Bool) (x : Bool) : Type 0 where
-  rest : List Bool
-  is : b ≡ x ∷ rest
-
 layer-begins : (version i : ℕ) (before : Config) (s : Stream) → 1 ≤ i
-    → Begins (layerBits version i before s) (sameConfig before (s .config))
+    → Begins (layerBits version i before s) (sameConfig before (s .config) ∷ [])
 unfolding layerBits bitsOf odd
 layer-begins version i before s h = rw (ne-eqb i 0 (λ e. omega arith)) (go (sameConfig before (s .config)))
   where
-    go : (t : Bool) → Begins (cond t (bitsOf 1 1) (bitsOf 1 0 ++ configBits version (s .config)) ++ frameLengthBits s) t
+    go : (t : Bool)
+        → Begins (cond t (bitsOf 1 1) (bitsOf 1 0 ++ configBits version (s .config)) ++ frameLengthBits s) (t ∷ [])
     go true = record { rest = frameLengthBits s; is = refl }
     go false = record { rest = configBits version (s .config) ++ frameLengthBits s; is = refl }
 

@@ -5,9 +5,9 @@ use Prim.Native.Nat.{ℕ}
 use Rattle.kernel.specs.declared.Refusal.{Refusal}
 use Rattle.kernel.specs.declared.Reached.{Reached}
 use Rattle.kernel.specs.declared.Reached.the-variants.{To, Refused}
-use Rattle.kernel.specs.Answer.{Told, refusal, told, toldWith}
+use Rattle.kernel.specs.Answer.{refusal, told, toldWith}
 use Rattle.kernel.specs.Reading.{Reading, run}
-use Rattle.kernel.proofs.Once.{answerOf}
+use Rattle.kernel.proofs.Once.{reachedOf, besideOf}
 use Rattle.config_reader.specs.Answer.{IfReached, IfRefused, tableAfter}
 use Rattle.config_reader.specs.Promises.{TellsBeside}
 
@@ -17,13 +17,6 @@ module _ {A : Type 0} {blank : A} (s : List ℕ) (m : Reading A) (at n : ℕ) wh
       → v ≡ Refused x → a ≡ blank → refusal x ≡ told (run s m at n)
       → (TellsBeside blank s m at n v a × (table ≡ tableAfter v table layers last)) × IfReached v X
   refusing table layers last X e h q = rw e (((q, h), refl), tt)
-
--- the answer that tells this, and what stands beside it
-abbrev reachedOf : {A : Type 0} → Told A → Reached
-reachedOf o = answerOf (λ a c. To c) Refused o
-
-abbrev besideOf : {A : Type 0} → A → Told A → A
-besideOf blank o = answerOf (λ a c. a) (λ x. blank) o
 
 module _ {A : Type 0} (blank : A) where
   back : (v : Reached) (a : A) → IfRefused v (a ≡ blank)

@@ -15,7 +15,7 @@ use Rattle.kernel.specs.Answer.{Told, value, refusal, told}
 use Rattle.kernel.proofs.Run.{bind-assoc}
 use Rattle.kernel.proofs.Tests.{either, neither}
 use Rattle.kernel.proofs.Chain.{Comes, gives, on, off, same-end, itself, goes-on, steady, gave-told}
-use Rattle.kernel.proofs.Kept.{run-kept}
+use Rattle.kernel.proofs.Kept.{Numbered, run-kept}
 use Rattle.kernel.specs.Lists.{tab}
 use Rattle.kernel.proofs.Lists.{tab-none}
 use Rattle.records.specs.declared.Config.{Config}
@@ -25,7 +25,6 @@ use Rattle.records.specs.Table.{streamsIn, rowFrom, rowAt, tableOf}
 use Rattle.records.proofs.Tables.{streams-more, streams-end, table-more, table-end}
 use Rattle.config.specs.declared.Places.{Places}
 use Rattle.config.specs.Mux.{layer, layers, configAt, numLayer, programs, noPlaces}
-use Rattle.numbers.proofs.Given.{Numbered}
 use Rattle.config.proofs.Given.{few-layers}
 
 -- numLayer brings the streams to 16 at most

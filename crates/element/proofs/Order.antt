@@ -6,7 +6,7 @@ use Prim.Native.Nat.{ℕ, zero, suc, _+_}
 use native.Mathlib.Omega.{arith}
 use lib.Dec.{eqb}
 use lib.ListN.{length, length-append, length-map}
-use Rattle.kernel.specs.Reading.{Reading, Outcome, gave, refused, run, after}
+use Rattle.kernel.specs.Reading.{Reading, run}
 use Rattle.kernel.specs.Element.{Passing, Item, Element, done, over, follow, accepted, walk, read}
 use Rattle.kernel.proofs.Theorems.{bind-runs-as-parts}
 use Rattle.records.specs.declared.Record.{Record}
@@ -16,16 +16,9 @@ use Rattle.element.specs.Mux.{kindU, kindC, kindL, kindP, kindO, kindA, 
 use Rattle.element.specs.Mux.{subframe, subframes, otherData, byteAlignment, streamsOf, slotsOf, body, applied}
 use Rattle.element.specs.Mux.{usable, useSameStreamMux, afterFlag, audioMuxElement, rest}
 use Rattle.element.specs.Claims.{marks, payloadMarks, subframeMarks, bodyMarks, configMarks, orderOf}
-use Rattle.kernel.proofs.Came.{Gave, Came, gave-any, came-so, came-over, came-part, came-follow, came-read}
+use Rattle.kernel.proofs.Came.{Gave, Came, gave-any, gave-after, came-so, came-over, came-part, came-follow, came-read}
 
 -- ---- as many lengths as streams
-
-many-after : {B : Type 0} (k : ℕ) (o : Outcome B) (f : B → ℕ → ℕ → Outcome (List ℕ))
-    → ((b : B) (at n : ℕ) → Gave (λ ws. length ws ≡ k) (f b at n))
-    → Gave (λ ws. length ws ≡ k) (after o f)
-unfolding after Gave
-many-after k (gave b at n) f h = h b at n
-many-after k (refused r) f h = tt
 
 many-lengths : (s : List ℕ) (k : ℕ) (ws : List ℕ) (slots : List (Reading ℕ)) (at n : ℕ) → length ws + length slots ≡ k
     → Gave (λ vs. length vs ≡ k) (run s (payloadLengthInfo ws slots) at n)
@@ -33,7 +26,7 @@ unfolding payloadLengthInfo run Gave
 many-lengths s k ws [] at n h = omega arith
 many-lengths s k ws (slot ∷ slots) at n h =
     rw (bind-runs-as-parts slot (λ w. payloadLengthInfo (ws ++ (w ∷ [])) slots) s at n)
-    (many-after k (run s slot at n) _
+    (gave-after (λ vs. length vs ≡ k) (run s slot at n) _
     (λ w p m. many-lengths s k (ws ++ (w ∷ [])) slots p m (omega (arith, length-append ws (w ∷ [])))))
 
 -- ---- behind the configuration

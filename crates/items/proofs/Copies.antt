@@ -6,13 +6,7 @@ use Prim.Native.Nat.{ℕ, zero, suc, _+_, _-_, _*_, _/_, _≤_, _<_, min}
 use native.Mathlib.Omega.{arith}
 use lib.ListN.{length, getD, take, drop, length-drop}
 use lib.Seq.{take-suc, take-add, getD-drop, drop-drop}
-use borrow.Author.Tests.{le-ltb}
-use Rattle.kernel.specs.declared.Window.the-variants.{Open}
 use Rattle.kernel.specs.Bits.{bitAt, valueAt, bit, odd, bitsOf, unpack}
-use Rattle.kernel.specs.Reading.{field, fit, onFit, run}
-use Rattle.kernel.specs.Answer.{told, value, refusal}
-use Rattle.kernel.specs.declared.Refusal.{Refusal}
-use Rattle.kernel.proofs.Chain.{apart}
 use Rattle.kernel.proofs.Bits.{bit-lt, bit-odd}
 use Rattle.kernel.proofs.Held.{length-unpack, bit-at}
 use Rattle.items.specs.Copied.{bitsFrom}
@@ -37,22 +31,6 @@ bits-value s p (suc w) h =
       getD-drop p
           (unpack s) w false,
     )
-
--- a field that is there is fetched whole
-pub field-there : (s : List ℕ) (at w n : ℕ) → at + w ≤ 8 * length s
-    → told (run s (field Open w) at n) ≡ value (valueAt s at w) (at + w) (n + min w 1)
-unfolding field run fit onFit
-field-there s at w n h = rw (le-ltb (8 * length s) (at + w) h)
-
--- so what is fetched of it is its value,
-pub fetched-value : (s : List ℕ) (at w n : ℕ) {v at′ n′ : ℕ} → at + w ≤ 8 * length s
-    → value v at′ n′ ≡ told (run s (field Open w) at n) → v ≡ valueAt s at w
-fetched-value s at w n h e = let q = e ∙ field-there s at w n h in cc
-
--- and no refusal
-pub fetched-some : (s : List ℕ) (at w n : ℕ) {x : Refusal} → at + w ≤ 8 * length s
-    → refusal x ≡ told (run s (field Open w) at n) → ⊥
-fetched-some s at w n h e = apart (e ∙ field-there s at w n h)
 
 -- the first n bits, and those behind them
 bits-turn : (s : List ℕ) (p k n : ℕ) → n ≤ k → bitsFrom s p k ≡ bitsFrom s p n ++ bitsFrom s (p + n) (k - n)

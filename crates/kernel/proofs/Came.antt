@@ -3,7 +3,7 @@ use mathlib.Core.Path.{_≡_}
 use mathlib.Core.List.{List, _∷_, _++_}
 use Prim.Native.Nat.{ℕ, _+_, _*_}
 use lib.ListN.{length}
-use Rattle.kernel.specs.Reading.{Reading, Outcome, gave, refused, run}
+use Rattle.kernel.specs.Reading.{Reading, Outcome, gave, refused, run, after}
 use Rattle.kernel.specs.Element.{Passing, passed, Item, item, partItem, Element, part, over, follow, Passage}
 use Rattle.kernel.specs.Element.{came, fell, withItem, walk, accepted, read}
 use Rattle.kernel.proofs.Induction.{by-part, by-over}
@@ -24,6 +24,12 @@ pub gave-any : {A : Type 0} (o : Outcome A) → Gave (λ _. Unit {0}) o
 unfolding Gave
 gave-any (gave a at n) = tt
 gave-any (refused r) = tt
+
+pub gave-after : {A B : Type 0} (R : A → Type 0) (o : Outcome B) (f : B → ℕ → ℕ → Outcome A)
+    → ((b : B) (at n : ℕ) → Gave R (f b at n)) → Gave R (after o f)
+unfolding after Gave
+gave-after R (gave b at n) f h = h b at n
+gave-after R (refused r) f h = tt
 
 module _ {A : Type 0} where
   pub came-any : (x : Passage A) → Came (λ _ _. Unit {0}) x

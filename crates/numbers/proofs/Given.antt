@@ -1,18 +1,12 @@
 -- What is read of a number is as wide as its bytes, and refused by a number of 01's table.
 use mathlib.Core.Path.{_≡_, refl}
-use mathlib.Core.Bool.{true, not, _&&_}
 use Prim.Native.Nat.{ℕ, zero, suc, _+_, _*_, _^_, _<_, _≤_}
 use native.Mathlib.Nat.{add-zero}
 use native.Mathlib.Omega.{arith}
-use lib.Dec.{leb, eqb}
 use lib.Pow.{pow-mono}
-use Rattle.kernel.proofs.Kept.{Kept, gives, either, so, a-field, a-need, on, then}
+use Rattle.kernel.proofs.Kept.{Numbered, Kept, gives, either, so, a-field, a-need, on, then}
 use Rattle.numbers.specs.Values.{bytesFrom, latmGetValue, groupsFrom}
 use Rattle.numbers.proofs.Turns.{byte-more}
-
--- the refusals behind the flag of an element: 3, and 5 to 15
-abbrev pub Numbered : ℕ → Type 0
-Numbered m = (leb 3 m && leb m 15 && not (eqb m 4)) ≡ true
 
 -- of w bits
 abbrev pub Wide : ℕ → ℕ → Type 0

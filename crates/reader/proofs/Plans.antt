@@ -11,6 +11,7 @@ use lib.ListN.{List·getD-eq-default}
 use lib.Seq.{take-at}
 use borrow.Author.Tests.{ne-eqb}
 use Rattle.kernel.specs.Reading.{give, choose, _>>=_}
+use Rattle.kernel.proofs.Lists.{next-one, take-more}
 use Rattle.kernel.proofs.Tests.{both}
 use Rattle.records.specs.declared.Stream.{Stream}
 use Rattle.records.specs.declared.Record.{Record}
@@ -21,7 +22,6 @@ use Rattle.records.proofs.Apart.{FixedOk, of-type-0, of-type-1, fixed-ok, recor
 use Rattle.element.specs.Mux.{muxSlotLengthBytes, slotOf, slotsOf, streamsOf, body}
 use Rattle.walk.specs.Plan.{slotBy, slotsBy, planned}
 use Rattle.walk.specs.Promises.{Planned}
-use Rattle.walk.proofs.Turns.{next-one, widths-more}
 use Rattle.reader.specs.Parts.{fixedBits, fixedOf, Fixable, planOf}
 
 -- by its number a slot is read as by its type and frameLength
@@ -83,7 +83,7 @@ pub fixed-turn : (ss : List Stream) (slots : List ℕ) (n i w : ℕ) {all : List
     → take (i + 1) (set slots i w) ++ map fixedOf (drop (i + 1) (take n ss)) ≡ all
 fixed-turn ss slots n i w h l k e q =
     let more = map fixedOf (drop (i + 1) (take n ss)) in
-    ap (λ (z : List ℕ). z ++ more) (widths-more slots i w k) ∙ append-assoc (take i slots) (w ∷ []) more
+    ap (λ (z : List ℕ). z ++ more) (take-more slots i w k) ∙ append-assoc (take i slots) (w ∷ []) more
     ∙ ap (λ (v : ℕ). take i slots ++ (v ∷ more)) e ∙ (rw (next-one noStream ss n i h l) at q)
 
 -- and all of them, with zeros behind

@@ -15,14 +15,13 @@ use Rattle.kernel.specs.Element.{Item, Passage, came, fell, done, fields, item,
 use Rattle.kernel.specs.Element.{accepted, rejected, ended}
 use Rattle.kernel.proofs.Chain.{Comes, apart, gave-told, on, off, holds, fails, gives, steady}
 use Rattle.kernel.proofs.Run.{run-forward}
-use Rattle.kernel.proofs.Kept.{run-kept}
+use Rattle.kernel.proofs.Kept.{Numbered, run-kept}
 use Rattle.kernel.proofs.Induction.{by-part}
 use Rattle.kernel.proofs.Walk.{under, onward, walk-follow, walk-gave}
 use Rattle.records.specs.declared.Record.{Record}
 use Rattle.records.specs.Table.{tableOf}
 use Rattle.records.specs.Valid.{validOf}
 use Rattle.config.specs.Mux.{streamMuxConfig}
-use Rattle.numbers.proofs.Given.{Numbered}
 use Rattle.config.proofs.Given.{ReadOk, mux}
 use Rattle.element.specs.declared.Held.{Held}
 use Rattle.element.specs.declared.Verdict.{Verdict}

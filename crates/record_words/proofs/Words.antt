@@ -10,9 +10,8 @@ use lib.Seq.{drop-cons, drop-at, drop-drop, drop-append-add, getD-drop, getD-tak
 use lib.Seq.{length-take-le}
 use borrow.Author.Tests.{eqb-true, eq-eqb, le-leb, lt-leb}
 use Rattle.kernel.specs.Lists.{allOf, Stored}
-use Rattle.kernel.proofs.Lists.{length-tab, sets-front}
-use Rattle.kernel.proofs.Tests.{all-of}
-use Rattle.records.proofs.Tables.{getD-tab}
+use Rattle.kernel.proofs.Lists.{length-tab, getD-tab, stored-front}
+use Rattle.kernel.proofs.Tests.{all-of, all-yes}
 use Rattle.records.specs.declared.Freq.{Freq}
 use Rattle.records.specs.declared.Freq.the-variants.{Index, Hz}
 use Rattle.records.specs.declared.Form.{Form}
@@ -55,8 +54,7 @@ laid-none w r h = rw (lt-leb recordSize (length w) h)
 laid-front : (w w′ b : List ℕ) (to : ℕ) → Stored w 0 b w′ to → to ≡ recordSize → recordSize ≤ length w
     → w′ ≡ b ++ drop recordSize w
 laid-front w w′ b to p e h =
-    let n : length b ≡ recordSize = omega (arith, p .next) in
-    p .cells ∙ rw n at (sets-front b w (omega (arith, n)))
+    rw e at (stored-front p (omega (arith, p .next)))
 
 pub laid-all : (w w′ : List ℕ) (r : Record) (to : ℕ) → Stored w 0 (wordsOf r) w′ to → to ≡ recordSize
     → recordSize ≤ length w → w′ ≡ laidIn w r
@@ -163,14 +161,9 @@ module _ (r : Record) (rest : List ℕ) (k : length (r .layers) ≡ 16) (l : len
 
 -- ---- words compared
 
-all-below : (n : ℕ) (f : ℕ → Bool) → ((i : ℕ) → i < n → f i ≡ true) → allOf n f ≡ true
-unfolding allOf
-all-below zero f h = refl
-all-below (suc n) f h = rw (all-below n f (λ i b. h i (omega arith)), h n (omega arith))
-
 pub same-ahead : (a rest : List ℕ) → length a ≡ recordSize → sameWords a (a ++ rest) ≡ true
 unfolding sameWords
-same-ahead a rest l = all-below recordSize _ λ i b. eq-eqb _ _ (sym (List·getD-append a rest 0 i (omega arith)))
+same-ahead a rest l = all-yes recordSize _ λ i b. eq-eqb _ _ (sym (List·getD-append a rest 0 i (omega arith)))
 
 pub same-are : (a w : List ℕ) → length a ≡ recordSize → recordSize ≤ length w → sameWords a w ≡ true
     → a ≡ take recordSize w

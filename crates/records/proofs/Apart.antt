@@ -7,7 +7,7 @@ use native.Mathlib.Omega.{arith}
 use lib.Dec.{leb, ltb, eqb}
 use lib.ListN.{getD}
 use borrow.Author.Tests.{leb-true, leb-false, ltb-true, ltb-false, eqb-true, le-leb, lt-leb, lt-ltb, le-ltb, eq-eqb}
-use Rattle.kernel.proofs.Tests.{both, three, five, either, all-of, all-yes}
+use Rattle.kernel.proofs.Tests.{both, three, five, either, or-else, cond-says, chosen-yes, chosen-no, all-of, all-yes}
 use Rattle.records.specs.declared.Freq.{Freq}
 use Rattle.records.specs.declared.Freq.the-variants.{Index, Hz}
 use Rattle.records.specs.declared.Form.{Form}
@@ -155,12 +155,6 @@ pub record RecordOk (r : Record) : Type 0 where
   pub no-streams : (i : ℕ) → streamsIn (r .layers) (r .programs) 16 ≤ i → i < 16
       → getD (r .streams) i noStream ≡ noStream
 
-chosen-yes : (t a b : Bool) → cond t a b ≡ true → t ≡ true → a ≡ true
-chosen-yes t a b h e = rw e at h
-
-chosen-no : (t a b : Bool) → cond t a b ≡ true → t ≡ false → b ≡ true
-chosen-no t a b h e = rw e at h
-
 layers-sent : (ks : List ℕ) (n : ℕ) → layersOk ks n ≡ true → n ≤ 15 → (p : ℕ) → p ≤ n → getD ks p 0 ≤ 7
 layers-sent ks n h l p k =
     leb-true (getD ks p 0) 7 (chosen-yes (leb p n) (leb (getD ks p 0) 7) (eqb (getD ks p 0) 0)
@@ -219,15 +213,6 @@ record-ok r h =
       no-streams = streams-not (r .version) n (r .streams) (q .4);
     }
 
--- a test, or what holds where it does not
-or-else : (t : Bool) (b : Bool) → (t ≡ false → b ≡ true) → (t || b) ≡ true
-or-else true b h = refl
-or-else false b h = h refl
-
-chosen-both : (t a b : Bool) → (t ≡ true → a ≡ true) → (t ≡ false → b ≡ true) → cond t a b ≡ true
-chosen-both true a b h g = h refl
-chosen-both false a b h g = g refl
-
 head-valid : (r : Record) → RecordOk r → headOk r ≡ true
 head-valid r h =
     rw (
@@ -252,7 +237,7 @@ ending-valid r h =
 layers-valid : (r : Record) → RecordOk r → layersOk (r .layers) (r .programs) ≡ true
 layers-valid r h =
     all-yes 16 _ λ p l.
-    chosen-both (leb p (r .programs)) (leb (getD (r .layers) p 0) 7) (eqb (getD (r .layers) p 0) 0)
+    cond-says (_≡ true) (leb p (r .programs)) (leb (getD (r .layers) p 0) 7) (eqb (getD (r .layers) p 0) 0)
     (λ e. le-leb (getD (r .layers) p 0) 7 (h .layers p (leb-true p (r .programs) e)))
     (λ e. eq-eqb (getD (r .layers) p 0) 0 (h .no-layers p (leb-false p (r .programs) e) l))
 
@@ -261,7 +246,7 @@ streams-valid : (r : Record) → RecordOk r
 streams-valid r h =
     let n = streamsIn (r .layers) (r .programs) 16 in
     all-yes 16 _ λ i l.
-    chosen-both (ltb i n) (validStream (r .version) (getD (r .streams) i noStream))
+    cond-says (_≡ true) (ltb i n) (validStream (r .version) (getD (r .streams) i noStream))
     (blankStream (getD (r .streams) i noStream))
     (λ e. h .streams i (ltb-true i n e))
     (λ e. rw (h .no-streams i (ltb-false i n e) l))

@@ -8,8 +8,7 @@ use native.Mathlib.Omega.{arith}
 use lib.Dec.{eqb}
 use lib.ListN.{length, getD, drop, set, length-set}
 use Rattle.kernel.specs.Lists.{tab, allOf}
-use Rattle.kernel.proofs.Lists.{tab-none, tab-more}
-use Rattle.records.proofs.Tables.{tab-all}
+use Rattle.kernel.proofs.Lists.{tab-none, tab-more, tab-all}
 use Rattle.script.specs.Sevens.{sevens, sevensFrom}
 
 -- s was lent, and xs stands there now

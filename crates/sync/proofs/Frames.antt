@@ -1,15 +1,13 @@
--- Laws of a frame that is written: its tests, and its bytes.
-use mathlib.Core.Path.{_≡_, refl, sym, _∙_, ap}
+-- Laws of a frame that is written: its tests.
+use mathlib.Core.Path.{_≡_, refl}
 use mathlib.Core.Bool.{Bool, true, false, cond, _||_}
 use mathlib.Core.Logic.{_⊎_, inl, inr}
-use mathlib.Core.List.{List, _∷_, _++_}
+use mathlib.Core.List.{List}
 use Prim.Native.Nat.{ℕ, _+_, _≤_, _<_}
 use native.Mathlib.Omega.{arith}
 use borrow.Author.Tests.{eq-eqb, ne-eqb, lt-ltb, le-ltb, eqb-true, eqb-false, ltb-true, ltb-false}
 use lib.Dec.{eqb, ltb}
-use lib.ListN.{length, set, drop}
-use Rattle.kernel.specs.Lists.{Stored}
-use Rattle.kernel.proofs.Lists.{sets-front}
+use lib.ListN.{length}
 use Rattle.sync.specs.declared.Framed.{Framed}
 use Rattle.sync.specs.declared.Framed.the-variants.{Done, Refused}
 use Rattle.sync.specs.Sync.{framedOf}
@@ -74,12 +72,3 @@ module _ (el : List ℕ) (room : ℕ) where
     for-19 =
         record { then = λ e. room-refused (rw e at framed-fits); when = λ h. no-room el room (h .0) (h .1) (h .2) };
   }
-
--- three stores and an element laid behind them are the frame, and what stood behind it
-pub stored-is : (el out : List ℕ) (a b c : ℕ) {out′ : List ℕ} {to : ℕ} → 3 + length el ≤ length out
-    → Stored (set (set (set out 0 a) 1 b) 2 c) 3 el out′ to
-    → out′ ≡ (a ∷ b ∷ c ∷ el) ++ drop to out
-stored-is el out a b c h s =
-    let e : length (a ∷ b ∷ c ∷ el) ≡ 3 + length el = omega arith in
-    s .cells ∙ sets-front (a ∷ b ∷ c ∷ el) out (omega (arith, e))
-    ∙ ap (λ (n : ℕ). (a ∷ b ∷ c ∷ el) ++ drop n out) (e ∙ sym (s .next))

@@ -11,10 +11,7 @@ use Rattle.sync.specs.declared.Hunted.{Hunted}
 use Rattle.sync.specs.declared.Hunted.the-variants.{Found, Refused}
 use Rattle.sync.specs.Sync.{marked, sizeAt, frameAt, firstOf, huntOf, elementAt}
 use Rattle.kernel.specs.Answer.{unread}
-
-and-false : (b : Bool) → (b && false) ≡ false
-and-false true = refl
-and-false false = refl
+use Rattle.kernel.proofs.Tests.{and-false}
 
 module _ (s : List ℕ) (p : ℕ) where
   -- the tests of a mark, its first byte before the others

@@ -10,18 +10,17 @@ use lib.Seq.{sets}
 use borrow.Author.Tests.{lt-ltb, le-ltb}
 use Rattle.kernel.specs.declared.Refusal.{Refusal}
 use Rattle.kernel.specs.declared.Window.the-variants.{Open}
-use Rattle.kernel.specs.Reading.{Reading, gave, pass, Fit, fits, short, fit, onFit, run, Stands}
+use Rattle.kernel.specs.Reading.{Reading, pass, fit, onFit, run, Stands}
 use Rattle.kernel.specs.Answer.{Told, value, refusal, told}
 use Rattle.kernel.specs.Element.{Passing, closed, passed, Item, item, partItem, Element, done, part, over, spot, follow}
 use Rattle.kernel.specs.Element.{Passage, came, fell, withItem, walk}
 use Rattle.kernel.proofs.Chain.{Comes, apart, gave-told}
-use Rattle.kernel.proofs.Lists.{sets-append}
+use Rattle.kernel.proofs.Lists.{sets-append, next-one}
 use Rattle.kernel.proofs.Induction.{by-part, by-over}
 use Rattle.kernel.proofs.Walk.{under, onward, walk-follow, walk-over, walk-gave}
 use Rattle.kernel.proofs.Map.{Good, good}
-use Rattle.kernel.proofs.Run.{fit-inside, run-forward}
+use Rattle.kernel.proofs.There.{skipped}
 use Rattle.element.specs.Mux.{kindP, passOver, payloadMux, subframe, subframes}
-use Rattle.walk.proofs.Turns.{next-one}
 use Rattle.element.specs.Reply.{numbers}
 use Rattle.element.proofs.Numbers.{length-numbers, numbers-append}
 use Rattle.walk.specs.Parts.{toldPassage, made, storedIf, Goes, Most}
@@ -183,18 +182,6 @@ stored-item false map k it = refl
 
 -- ---- what code that passes one item over promises, from what the skip of its bits tells
 
-module _ {s : List ℕ} {at n : ℕ} (w : ℕ) where
-  skipped : {u : Unit {0}} {at′ n′ : ℕ} → Comes s (pass Open w) at n (value u at′ n′)
-      → (at + w ≤ 8 * length s) × (at′ ≡ at + w) × (n′ ≡ n)
-  unfolding pass run onFit
-  skipped {u} {at′} {n′} e = go (fit Open (8 * length s) (at + w)) refl (e .is)
-    where
-      go : (x : Fit) → fit Open (8 * length s) (at + w) ≡ x
-          → told {A = Unit {0}} (onFit x at n (gave tt (at + w) n)) ≡ value u at′ n′
-          → (at + w ≤ 8 * length s) × (at′ ≡ at + w) × (n′ ≡ n)
-      go fits q h = (fit-inside Open _ _ q, cc, cc)
-      go (short m) q h = absurd (apart h)
-
 module _ {A : Type 0} {s : List ℕ} {at n k : ℕ} {store : Bool} {map : List ℕ} (x : Passing) (kind stream w : ℕ) where
   pub over-short : (e : Element A) {z : Refusal} → Comes s (pass Open w) at n (refusal z)
       → Goes s (over x kind stream w e) at n k store map (refusal z) map
@@ -319,11 +306,6 @@ pub subframes-more : (slots : List (Reading ℕ)) (m : ℕ) → 0 < m
 unfolding subframes
 subframes-more slots zero h = absurd (omega arith)
 subframes-more slots (suc m) h = let e : suc m - 1 ≡ m = omega arith in rw e
-
--- a reading that came to a value went forward
-pub ahead : {A : Type 0} {s : List ℕ} {m : Reading A} {at n : ℕ} {a : A} {at′ n′ : ℕ}
-    → Comes s m at n (value a at′ n′) → at ≤ at′
-ahead {s} {m} {at} {n} e = rw (gave-told (run s m at n) (e .is)) at (run-forward s m at n)
 
 pub done-is : {A : Type 0} {s : List ℕ} {at n k : ℕ} {store : Bool} {map : List ℕ} {a : A}
     → Goes s (done a) at n k store map (value k at n) map

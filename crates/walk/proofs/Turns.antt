@@ -1,17 +1,15 @@
 -- One turn of the readings that loop.
-use mathlib.Core.Path.{_≡_, sym, ap, _∙_}
+use mathlib.Core.Path.{_≡_}
 use mathlib.Core.List.{List, [], _∷_, _++_}
 use Prim.Native.Nat.{ℕ, zero, suc, _+_, _*_, _-_, _<_, _≤_}
-use native.Mathlib.Numerals.{add-one}
 use native.Mathlib.Omega.{arith}
-use lib.ListN.{length, getD, set, take, drop, replicate, length-take, drop-of-length-le}
-use lib.Seq.{drop-cons, drop-drop, drop-set-lt, getD-take, take-suc-set}
+use lib.ListN.{length, getD, take, drop, length-take, drop-of-length-le}
 use borrow.Author.Tests.{eq-eqb, ne-eqb}
 use Rattle.kernel.specs.declared.Window.the-variants.{Open}
 use Rattle.kernel.specs.declared.Refusal.{Refusal}
 use Rattle.kernel.specs.Reading.{field, run}
 use Rattle.kernel.specs.Answer.{Told, value, refusal}
-use Rattle.kernel.proofs.Lists.{drop-replicate}
+use Rattle.kernel.proofs.Lists.{next-one}
 use Rattle.kernel.proofs.Chain.{Comes, gave-told, gives, on, off, yes-way, no-way, itself, goes-on}
 use Rattle.kernel.proofs.Kept.{Any, Kept, gives as keeps, either, so as keeps-so, a-field, on as keeps-on, run-kept}
 use Rattle.element.specs.Mux.{slotFrom, muxSlotLengthBytes, payloadLengthInfo}
@@ -42,13 +40,6 @@ module _ {s : List ℕ} {at k : ℕ} where
   slot-turn (suc n) v {b} h e u q =
       let p : suc n - 1 ≡ n = omega arith in
       rw p (goes-on (slotFrom n _) _ _ (on _ e (yes-way _ (eq-eqb b 255 u) itself)) q)
-
--- the i-th of the first n, and those after it
-pub next-one : {A : Type 0} (d : A) (xs : List A) (n i : ℕ) → i < n → n ≤ length xs
-    → drop i (take n xs) ≡ getD xs i d ∷ drop (i + 1) (take n xs)
-next-one d xs n i h l =
-    let e : length (take n xs) ≡ n = length-take n xs ∙ omega arith in
-    rw (drop-cons (take n xs) i d (omega arith), getD-take n xs i d h, add-one)
 
 -- the bytes of a slot are fewer than those of 8,192 bytes of 255
 slot-small : (n v : ℕ) → Kept Any (λ (x : ℕ). x ≤ v + 255 * n) (slotFrom n v)
@@ -87,15 +78,3 @@ module _ {s : List ℕ} {at k : ℕ} (slots : List ℕ) (n : ℕ) where
   lengths-turn ws i h l e q =
       goes-on (payloadLengthInfo _ (slotsBy (drop (i + 1) (take n slots)))) _ _ (on _ e itself)
       (rw (next-one 0 slots n i h l) at q)
-
--- a width stored behind those that stand
-pub widths-more : (ws : List ℕ) (i w : ℕ) → i < length ws → take (i + 1) (set ws i w) ≡ take i ws ++ (w ∷ [])
-widths-more ws i w h = rw add-one (take-suc-set ws i w h)
-
--- and behind it zeros
-pub zeros-more : (ws : List ℕ) (i w : ℕ) → drop i ws ≡ replicate (16 - i) 0
-    → drop (i + 1) (set ws i w) ≡ replicate (16 - (i + 1)) 0
-zeros-more ws i w h =
-    let e : 16 - i - 1 ≡ 16 - (i + 1) = omega arith in
-    drop-set-lt (i + 1) ws i w (omega arith) ∙ sym (drop-drop 1 i ws) ∙ ap (drop 1) h ∙ drop-replicate 1 (16 - i) 0
-    ∙ ap (λ (n : ℕ). replicate n 0) e

@@ -6,11 +6,8 @@ use lib.ListN.{take, replicate, take-append-drop}
 use Rattle.kernel.specs.declared.Reached.{Reached}
 use Rattle.kernel.specs.declared.Reached.the-variants.{To, Refused}
 use Rattle.kernel.specs.Answer.{Told, toldWith}
-use Rattle.kernel.proofs.Once.{answerOf}
+use Rattle.kernel.proofs.Once.{answerOf, reachedOf}
 use Rattle.walk.specs.Promises.{ZerosBehind}
-
-abbrev reachedOf : Told (List ℕ) → Reached
-reachedOf o = answerOf (λ ws c. To c) Refused o
 
 abbrev widthsOf : ℕ → Told (List ℕ) → List ℕ
 widthsOf k o = answerOf (λ ws c. ws ++ replicate (16 - k) 0) (λ x. replicate 16 0) o

@@ -8,7 +8,7 @@ use lib.Dec.{eqb}
 use lib.ListN.{length, getD, take, drop, length-append, length-drop}
 use lib.Seq.{take-append-seam, drop-append-seam, take-add, drop-drop}
 use Rattle.kernel.specs.Bits.{unpack}
-use Rattle.kernel.proofs.Held.{unpack-append, length-first}
+use Rattle.kernel.proofs.Held.{unpack-split, length-first}
 use Rattle.records.specs.declared.Stream.{Stream}
 use Rattle.element.specs.Mux.{kindL, kindP}
 use Rattle.writer.specs.Written.{Piece, bitsIn, itemsAt, payloadPieces, sumOf, subframePieces}
@@ -52,10 +52,6 @@ module _ (kind : ℕ) where
   unfolding keptWidths
   kept-widths-append [] qs = refl
   kept-widths-append (p ∷ ps) qs = rw (kept-widths-append ps qs, append-assoc)
-
--- two parts of a payload
-unpack-split : (a b : ℕ) (s : List ℕ) → unpack (take (a + b) s) ≡ unpack (take a s) ++ unpack (take b (drop a s))
-unpack-split a b s = rw (take-add a b s, unpack-append)
 
 payload-kept : (k i : ℕ) (ns payload : List ℕ)
     → keptBits kindP (payloadPieces i k ns payload) ≡ unpack (take (sumOf k ns) payload)

@@ -11,7 +11,7 @@ use lib.Dec.{eqb, ltb}
 use lib.ListN.{length, getD, drop}
 use lib.Seq.{getD-drop}
 use Rattle.kernel.specs.Bits.{bit}
-use Rattle.kernel.proofs.Tests.{both, either}
+use Rattle.kernel.proofs.Tests.{both, either, cond-says}
 use Rattle.records.specs.declared.Stream.{Stream}
 use Rattle.records.specs.Blank.{noStream}
 use Rattle.records.specs.Valid.{validOf}
@@ -21,7 +21,7 @@ use Rattle.writer.specs.declared.Written.the-variants.{Done, Refused}
 use Rattle.writer.specs.Written.{Sent, sizeOf}
 use Rattle.writer.specs.Write.{slotFits, rowFits, slotsFit, fits, writtenOf}
 use Rattle.writer.specs.Claims.{RightSizes, RefusedExactly}
-use Rattle.writer.proofs.Whole.{cond-says, fits-are}
+use Rattle.writer.proofs.Whole.{fits-are}
 use Rattle.writer.proofs.Answers.{right-fits, next-slot, written-16, written-17, written-18, written-19}
 
 -- ---- slots that 17 does not refuse have their sizes

@@ -8,7 +8,8 @@ use lib.ListN.{length, length-append}
 use Rattle.kernel.specs.Exactly.{Exactly}
 use Rattle.kernel.specs.Bits.{bitAt, bit, bitsOf, unpack, pack}
 use Rattle.kernel.specs.Element.{fields}
-use Rattle.kernel.proofs.Bits.{length-bitsOf}
+use Rattle.kernel.proofs.Lists.{Begins}
+use Rattle.kernel.proofs.Bits.{bit-exactly, length-bitsOf}
 use Rattle.kernel.proofs.Held.{unpack-append, unpack-pack, unpack-holds}
 use Rattle.records.specs.declared.Record.{Record}
 use Rattle.config.specs.Mux.{configAt, muxBits}
@@ -16,11 +17,6 @@ use Rattle.config.specs.Claims.{bitsBefore, SaysSame}
 use Rattle.element.specs.Mux.{kindU}
 use Rattle.writer.specs.Written.{Piece, piece, bitsIn, configPieces, Sent, elementBits}
 use Rattle.writer.proofs.Answers.{slots, others}
-
--- bits that begin so
-record Begins (b front : List Bool) : Type 0 where
-  rest : List Bool
-  is : b ≡ front ++ rest
 
 front-begins : (t : Bool) (r : Record) (x y : List Piece) → t ≡ true
     → Begins (bitsIn ((piece fields kindU 0 (bitsOf 1 (cond t 0 1)) ∷ (configPieces t r ++ x)) ++ y)) (bitsOf 1 0
@@ -32,13 +28,6 @@ front-begins false r x y e = absurd (let z : bit false ≡ bit true = ap bit e i
 
 sent-begins : (w : Sent) → w .send ≡ true → Begins (elementBits w) (bitsOf 1 0 ++ muxBits (w .config))
 sent-begins w e = front-begins (w .send) (w .config) (slots w ++ others w) _ e
-
-bit-true : (x : Bool) → bit x ≡ 1 → x ≡ true
-bit-true true e = refl
-bit-true false e = absurd (omega arith)
-
-bit-exactly : {A : Type 0} (x : Bool) {v : ℕ} → v ≡ bit x → Exactly (x ≡ true) A → Exactly (v ≡ 1) A
-bit-exactly x q h = record { then = λ e. h .then (bit-true x (sym q ∙ e)); when = λ a. q ∙ ap bit (h .when a) }
 
 module _ (w : Sent) (n : ℕ) (behind : List ℕ) (whole : length (elementBits w) ≡ 8 * n) (sent : w .send ≡ true) where
   pub bit-says : (p l i : ℕ) → SaysSame (w .config) p l i

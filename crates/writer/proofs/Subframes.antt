@@ -4,10 +4,10 @@ use mathlib.Core.Bool.{Bool, _&&_}
 use mathlib.Core.List.{List, _++_}
 use Prim.Native.Nat.{ℕ, zero, suc, _+_, _-_, _*_, _≤_, _<_}
 use native.Mathlib.Omega.{arith}
-use lib.ListN.{length, getD, take, drop, length-drop}
-use lib.Seq.{drop-drop, length-take-le, take-add}
+use lib.ListN.{length, getD, take, drop}
+use lib.Seq.{drop-drop, length-take-le}
 use Rattle.kernel.specs.Bits.{unpack}
-use Rattle.kernel.proofs.Held.{unpack-append}
+use Rattle.kernel.proofs.Held.{unpack-split}
 use Rattle.records.specs.declared.Stream.{Stream}
 use Rattle.writer.specs.declared.Measure.{Measure}
 use Rattle.writer.specs.Written.{bitsIn, lengthsBits, payloadPieces, sumOf, subframePieces}
@@ -22,15 +22,6 @@ pub mul-less : (n k : ℕ) → 0 < n → n * k ≡ k + (n - 1) * k
 mul-less zero k h = absurd (omega arith)
 mul-less (suc n) k h = let e : suc n - 1 ≡ n = omega arith in rw e (omega arith)
 
--- a part of a payload, by its ends
-pub part-is : (l : List ℕ) (s p : ℕ) → take (s + p - s) (drop s l) ≡ take p (drop s l)
-part-is l s p = let e : s + p - s ≡ p = omega arith in rw e
-
-pub part-length : (l : List ℕ) (s p : ℕ) → s + p ≤ length l → length (take (s + p - s) (drop s l)) ≡ p
-part-length l s p h =
-    let d : length (drop s l) ≡ length l - s = length-drop s l in
-    rw (part-is l s p) (length-take-le p (drop s l) (omega (arith, d)))
-
 -- the payloads of a row are one run of bytes
 payload-bits : (k i : ℕ) (ns payload : List ℕ)
     → bitsIn (payloadPieces i k ns payload) ≡ unpack (take (sumOf k ns) payload)
@@ -39,9 +30,7 @@ payload-bits zero i ns payload = refl
 payload-bits (suc k) i ns payload =
     rw (
       payload-bits k (i + 1) (drop 1 ns) (drop (getD ns 0 0) payload),
-      take-add (getD ns 0 0)
-          (sumOf k (drop 1 ns)) payload,
-      unpack-append,
+      unpack-split (getD ns 0 0) (sumOf k (drop 1 ns)) payload,
     )
 
 module _ (streams : List Stream) (count : ℕ) (ns : List ℕ) (l : count ≤ length streams) (m from : ℕ) where

@@ -4,20 +4,17 @@ use mathlib.Core.Bool.{Bool, true, false, cond}
 use mathlib.Core.List.{List, [], _∷_, _++_, append-nil, append-assoc}
 use mathlib.Core.Logic.{_⊎_, inl, inr}
 use Prim.Native.Nat.{ℕ, _+_, _-_, _*_, _/_, _%_, _≤_}
-use native.Mathlib.Nat.{mod-eq-of-lt}
 use native.Mathlib.Omega.{arith}
 use borrow.Author.Tests.{ltb-false, eqb-true, le-ltb, ne-eqb}
 use lib.Dec.{eqb, ltb}
 use lib.ListN.{length, take, length-append}
-use lib.Pow.{pow-pos}
 use lib.Seq.{take-length}
 use Rattle.kernel.specs.Bits.{bit, bitsOf, number, unpack, pack}
-use Rattle.kernel.specs.Element.{Item, accepted, rejected, Answer as Read, countOf, read, fields, passed, closed}
-use Rattle.kernel.specs.Trip.{Accepts}
-use Rattle.kernel.proofs.Bits.{length-bitsOf, number-bitsOf}
+use Rattle.kernel.specs.Element.{countOf, read, fields, passed, closed}
+use Rattle.kernel.proofs.Bits.{length-bitsOf, no-number}
 use Rattle.kernel.proofs.Held.{length-pack, unpack-pack}
-use Rattle.kernel.proofs.Tests.{both}
-use Rattle.kernel.proofs.Trip.{packed-reads}
+use Rattle.kernel.proofs.Tests.{both, cond-says}
+use Rattle.kernel.proofs.Trip.{packed-reads, accepted-is}
 use Rattle.records.specs.declared.Record.{Record}
 use Rattle.records.specs.Valid.{validOf}
 use Rattle.config.specs.Mux.{muxBits}
@@ -39,11 +36,6 @@ use Rattle.writer.proofs.Contents.{kept-widths-append, slots-kept, slot
 use Rattle.writer.proofs.Lengths.{slots-length, other-length}
 
 -- ---- what an answer says
-
-pub cond-says : {A : Type 0} (P : A → Type 0) (b : Bool) (x y : A) → (b ≡ true → P x) → (b ≡ false → P y)
-    → P (cond b x y)
-cond-says P true x y f g = f refl
-cond-says P false x y f g = g refl
 
 abbrev pub Says : Sent → ℕ → Written → Type 0
 Says w room (Done n) =
@@ -306,10 +298,6 @@ module _ (w : Sent) (f : Fits w) where
 
 -- ---- and all together
 
-accepted-is : {A : Type 0} (x : Read A) (a : A) (its : List Item) → Accepts x a its → x ≡ accepted a its (countOf x)
-accepted-is (accepted a′ its′ n) a its h = rw (h .0, h .1)
-accepted-is (rejected r its′) a its h = absurd h
-
 -- no refusal 1 or 2
 answer-is : (s : List ℕ) (held : Held) (room : ℕ) → 4368 ≤ room → 1 ≤ length s → length s ≤ 8191
     → answer s held room ≡ read s (audioMuxElement held)
@@ -317,9 +305,6 @@ unfolding answer
 answer-is s held room r h k =
     let n : length s ≡ 0 → ⊥ = λ e. omega arith in
     rw (le-ltb room 4368 r, ne-eqb (length s) 0 n, le-ltb 8191 (length s) k)
-
-no-number : (k : ℕ) → number 0 (bitsOf k 0) ≡ 0
-no-number k = number-bitsOf 0 k 0 ∙ omega (arith, mod-eq-of-lt (pow-pos k))
 
 pub reads-back : (w : Sent) → Typed (w .config) → validOf (w .config) ≡ true → Fits w → sizeOf w ≤ 8191
     → (held : Held) → (w .send ≡ true) ⊎ (held ≡ record { present = true; config = w .config }) → (room : ℕ)

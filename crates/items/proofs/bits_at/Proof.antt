@@ -2,7 +2,7 @@
 use mathlib.Core.Path.{sym, _∙_, ap}
 use native.Mathlib.Omega.{arith}
 use Rattle.kernel.specs.Answer.{toldFetched}
-use Rattle.items.proofs.Copies.{fetched-value, fetched-some}
+use Rattle.kernel.proofs.There.{fetched-value, fetched-some}
 use borrow.Author.Needs.{needs}
 use Rattle.items.proofs.bits_at.Statement.{statement}
 use Rattle.items.proofs.bits_at.Tie as tie

@@ -5,8 +5,8 @@ use Prim.Native.Nat.{ℕ, _-_, _≤_}
 use native.Mathlib.Omega.{arith}
 use lib.ListN.{length, drop, take, replicate, length-set}
 use borrow.Author.Needs.{needs}
+use Rattle.kernel.proofs.Lists.{zeros-more}
 use Rattle.records.specs.declared.Stream.{Stream}
-use Rattle.walk.proofs.Turns.{zeros-more}
 use Rattle.reader.specs.Parts.{fixedOf}
 use Rattle.reader.proofs.Plans.{fixed-turn, fixed-all}
 use Rattle.reader.proofs.slots_of.Statement.{statement}
@@ -57,7 +57,7 @@ loop-again c =
       room = length-set (l .loop .slots) i w ∙ l .loop .inv .room;
       filled = fixed-turn (a .t1) (l .loop .slots) (a .n) i w (omega arith) (omega arith) (omega arith)
           (c .fixed-bits .ensures) (l .loop .inv .filled);
-      blank = zeros-more (l .loop .slots) i w (l .loop .inv .blank);
+      blank = zeros-more 16 (l .loop .slots) i w (l .loop .inv .blank);
     }
 
 returns : tie.Need-returns Inv-loop μ-loop

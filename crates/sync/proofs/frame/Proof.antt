@@ -2,9 +2,9 @@
 use native.Mathlib.Omega.{arith}
 use mathlib.Core.Path.{refl, _∙_, sym, ap}
 use lib.ListN.{length-set}
-use Rattle.kernel.proofs.Lists.{stored-length}
+use Rattle.kernel.proofs.Lists.{stored-three, stored-length}
 use Rattle.sync.specs.declared.Framed.the-variants.{Done, Refused}
-use Rattle.sync.proofs.Frames.{no-byte, too-long, no-room, with-room, stored-is}
+use Rattle.sync.proofs.Frames.{no-byte, too-long, no-room, with-room}
 use borrow.Author.Needs.{needs}
 use Rattle.sync.proofs.frame.Statement.{statement}
 use Rattle.sync.proofs.frame.Tie as tie
@@ -40,7 +40,7 @@ returns-4 c =
     let l = c .before .before .lay .ensures in
     let h = e .if3 .left in (
       ap Done (l .0) ∙ sym (with-room (a .el .now) _ (omega (arith, h)) (omega (arith, h)) (omega (arith, h))),
-      stored-is (a .el .now) (a .out .now) _ _ _ (omega (arith, h)) (l .1),
+      stored-three (a .out .now) (a .el .now) _ _ _ (omega (arith, h)) (l .1),
     )
 
 pub frame-spec : {M : Type 1} → statement M

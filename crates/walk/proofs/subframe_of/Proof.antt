@@ -9,9 +9,10 @@ use borrow.Author.Needs.{needs}
 use Rattle.kernel.specs.Answer.{value, toldWith}
 use Rattle.kernel.specs.Element.{item, fields}
 use Rattle.kernel.proofs.Chain.{Comes, got, steady}
+use Rattle.kernel.proofs.There.{ahead}
 use Rattle.element.specs.Mux.{payloadLengthInfo, subframe, kindL}
 use Rattle.walk.specs.Plan.{slotsBy}
-use Rattle.walk.proofs.Goes.{goes-itself, goes-part, forward, goes-from, ahead, stop-is, most-more, stored-item}
+use Rattle.walk.proofs.Goes.{goes-itself, goes-part, forward, goes-from, stop-is, most-more, stored-item}
 use Rattle.walk.proofs.subframe_of.Statement.{statement}
 use Rattle.walk.proofs.subframe_of.Tie as tie
 

@@ -6,11 +6,12 @@ use native.Mathlib.Omega.{arith}
 use lib.ListN.{length, take, drop}
 use lib.Seq.{length-take-le}
 use Rattle.kernel.specs.Bits.{Put}
+use Rattle.kernel.proofs.Lists.{part-is, part-length}
 use Rattle.kernel.proofs.Laid.{Left, left-all, left-put, put-none, put-length}
 use Rattle.records.specs.declared.Stream.{Stream}
 use Rattle.writer.specs.declared.Measure.{Measure}
 use Rattle.writer.specs.Written.{bitsIn, sumOf, subframePieces}
-use Rattle.writer.proofs.Subframes.{all-sum-turn, all-bits-turn, mul-less, part-is, part-length}
+use Rattle.writer.proofs.Subframes.{all-sum-turn, all-bits-turn, mul-less}
 use borrow.Author.Needs.{needs}
 use Rattle.writer.proofs.put_subframes.Statement.{statement}
 use Rattle.writer.proofs.put_subframes.Tie as tie

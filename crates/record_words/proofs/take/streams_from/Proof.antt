@@ -9,8 +9,7 @@ use native.Mathlib.Omega.{arith}
 use lib.ListN.{drop, replicate}
 use borrow.Author.Needs.{needs}
 use Rattle.kernel.specs.Lists.{tab}
-use Rattle.kernel.proofs.Lists.{tab-none, tab-more}
-use Rattle.records.proofs.Tables.{tab-all}
+use Rattle.kernel.proofs.Lists.{tab-none, tab-more, tab-all}
 use Rattle.record_words.proofs.take.streams_from.Statement.{statement}
 use Rattle.record_words.proofs.take.streams_from.Tie as tie
 

@@ -9,9 +9,10 @@ use Rattle.kernel.specs.declared.Cursor.{Cursor}
 use Rattle.kernel.specs.Answer.{value, told, toldFetched}
 use Rattle.kernel.specs.Reading.{run, Stands}
 use Rattle.kernel.proofs.Chain.{Comes, got, itself, same-end, steady}
+use Rattle.kernel.proofs.Lists.{take-more, zeros-more}
 use Rattle.element.specs.Mux.{payloadLengthInfo}
 use Rattle.walk.specs.Plan.{slotsBy}
-use Rattle.walk.proofs.Turns.{lengths-done, lengths-stop, lengths-turn, widths-more, zeros-more}
+use Rattle.walk.proofs.Turns.{lengths-done, lengths-stop, lengths-turn}
 use Rattle.walk.proofs.slots.lengths_of.Statement.{statement}
 use Rattle.walk.proofs.slots.lengths_of.Tie as tie
 
@@ -80,9 +81,9 @@ loop-again c =
       size = length-set ws i w ∙ l .loop .inv .size;
       stands = steady t (l .loop .inv .stands);
       comes =
-          rw (widths-more ws i w (omega arith))
+          rw (take-more ws i w (omega arith))
           (lengths-turn (a .t2) (a .n) (take i ws) i (omega arith) (omega arith) t (l .loop .inv .comes));
-      zeros = zeros-more ws i w (l .loop .inv .zeros);
+      zeros = zeros-more 16 ws i w (l .loop .inv .zeros);
     }
 
 returns-2 : tie.Need-returns-2 Inv-loop μ-loop
