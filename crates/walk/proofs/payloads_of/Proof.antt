@@ -1,13 +1,12 @@
 -- `walk::payloads_of` meets its contract.
-use mathlib.Core.Path.{ap, _≡_}
+use mathlib.Core.Path.{_≡_}
 use Prim.Native.Nat.{_+_, _-_, _≤_}
 use native.Mathlib.Omega.{arith}
 use lib.ListN.{length, drop, take}
 use borrow.Author.Needs.{needs}
 use Rattle.kernel.specs.Element.{closed}
 use Rattle.element.specs.Mux.{payloadMux}
-use Rattle.walk.specs.Parts.{toldWalked}
-use Rattle.walk.proofs.Goes.{goes-told, Going, going-itself, going-on, going-off, going-done}
+use Rattle.walk.proofs.Goes.{Going, going-itself, going-on, going-off, going-done}
 use Rattle.walk.proofs.Goes.{payloads-none, payloads-more}
 use Rattle.walk.proofs.payloads_of.Statement.{statement}
 use Rattle.walk.proofs.payloads_of.Tie as tie
@@ -41,14 +40,11 @@ pass-item-requires c κs = omega arith
 
 returns : tie.Need-returns Inv-loop μ-loop
 returns c =
-    let q = c .enum-told .given .1 in
     let p = c .before .before .before .before in
     let l = p .before .before .before in
-    let a = l .before .before .before .args in (
-      rw q (going-off _ _ (payloads-more (a .t2) (a .n) (l .loop .i) (omega arith) (omega arith))
-          (goes-told (p .pass-item .ensures closed .0) (ap toldWalked q)) (l .loop .inv .2)),
-      rw q tt,
-    )
+    let a = l .before .before .before .args in
+    going-off _ _ (payloads-more (a .t2) (a .n) (l .loop .i) (omega arith) (omega arith)) _
+    (p .pass-item .ensures closed .0) (c .enum-told .given .1) (l .loop .inv .2)
 
 add-i : tie.Need-add-i Inv-loop μ-loop
 add-i c = omega arith
@@ -65,8 +61,8 @@ loop-again c =
       omega arith,
       (let e = rw (g .got .given .1) at (p .pass-item .ensures closed .1) in omega arith),
       going-on _ _ (payloads-more (a .t2) (a .n) (l .loop .i) (omega arith) (omega (arith, wide l)))
-          (goes-told (p .pass-item .ensures closed .0) (ap toldWalked (g .got .given .1)))
-          (p .pass-item .kept .1 .1 .1 .1 .1 .1 .0) (l .loop .inv .2),
+          (p .pass-item .ensures closed .0) (g .got .given .1) (p .pass-item .kept .1 .1 .1 .1 .1 .1 .0)
+          (l .loop .inv .2),
     )
 
 returns-2 : tie.Need-returns-2 Inv-loop μ-loop

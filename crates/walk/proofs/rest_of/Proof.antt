@@ -1,77 +1,68 @@
 -- `walk::rest_of` meets its contract.
-use mathlib.Core.Path.{ap, sym}
-use Prim.Native.Nat.{_+_}
+use mathlib.Core.Path.{refl}
+use Prim.Native.Nat.{_+_, _*_}
 use native.Mathlib.Omega.{arith}
+use denote.Ref.{now}
 use borrow.Author.Needs.{needs}
 use Rattle.element.specs.Mux.{rest}
-use Rattle.walk.specs.Parts.{toldWalked}
-use Rattle.walk.proofs.Goes.{goes-told, most-more, follow-then, follow-off, goes-steady}
+use Rattle.walk.specs.Plan.{planned}
+use Rattle.walk.proofs.Goes.{Way, outset, step, falls, arrives}
 use Rattle.walk.proofs.rest_of.Statement.{statement}
 use Rattle.walk.proofs.rest_of.Tie as tie
+
+abbrev From : tie.Start → Type 1
+From c =
+    let a = c .args in
+    Way (now (a .el)) (a .store) (planned (a .plan)) (a .c) (a .k) (17 * a .plan .subframes + 2) (now (a .map))
+
+abbrev start-a : tie.After-a → tie.Start
+start-a g = g .before .before .before .before .before .before .before .before .before
+
+abbrev framed : (g : tie.After-a) → From (start-a g)
+unfolding rest
+framed g =
+    let p = g .before .before .before .before in
+    step (outset (p .before .before .before .before .before .pre .1 .0)) _ _ _ refl (p .subframes-of .ensures)
+    (g .a .given .1) (p .subframes-of .kept .1 .1 .1 .1 .1 .1 .0)
+
+abbrev othered : (h : tie.After-b) → From (start-a (h .before .before .before .before .before .before .before))
+unfolding rest
+othered h =
+    let q = h .before .before .before .before in
+    step (framed (q .before .before .before)) _ _ _ refl (q .other-of .ensures) (h .b .given .1)
+    (q .other-of .kept .1 .1 .1 .1 .1 .0)
 
 returns : tie.Need-returns
 unfolding rest
 returns c =
-    let q = c .enum-told .given .1 in
-    let p = c .before .before .before .before in (
-      goes-told (follow-off _ _ (goes-told (p .subframes-of .ensures .0) (ap toldWalked q)))
-          (ap toldWalked (sym q)),
-      rw q tt,
-    )
+    let p = c .before .before .before .before in
+    falls (outset (p .before .before .before .before .before .pre .1 .0)) _ _ _ refl (p .subframes-of .ensures)
+    (c .enum-told .given .1)
 
 other-of-requires : tie.Need-other-of-requires
+unfolding framed
 other-of-requires c κs =
-    let g = c .before .before in
-    let p = g .before .before .before .before in
-    let r = p .before .before .before .before .before .pre in
-    let e = rw (g .a .given .1) at (p .subframes-of .ensures .1) in (
-      goes-steady (goes-told (p .subframes-of .ensures .0) (ap toldWalked (g .a .given .1))) (r .1 .0),
-      omega (arith, r .1 .1, p .subframes-of .kept .1 .1 .1 .1 .1 .1 .0),
-      omega (arith, e, r .1 .2),
-    )
+    let l = framed (c .before .before) in
+    (l .going .stands, omega (arith, l .going .same), omega (arith, l .few))
 
 returns-2 : tie.Need-returns-2
 unfolding rest
 returns-2 c =
-    let q = c .enum-told2 .given .1 in
-    let r = c .before .before .before .before in
-    let g = r .before .before .before in
-    let p = g .before .before .before .before in (
-      follow-then _ _ (goes-told (p .subframes-of .ensures .0) (ap toldWalked (g .a .given .1)))
-          (goes-told (follow-off _ _ (goes-told (r .other-of .ensures .0) (ap toldWalked q))) (ap toldWalked (sym q))),
-      rw q tt,
-    )
+    let q = c .before .before .before .before in
+    falls (framed (q .before .before .before)) _ _ _ refl (q .other-of .ensures) (c .enum-told2 .given .1)
 
 alignment-of-requires : tie.Need-alignment-of-requires
+unfolding othered
 alignment-of-requires c κs =
-    let h = c .before .before in
-    let q = h .before .before .before .before in
-    let g = q .before .before .before in
-    let p = g .before .before .before .before in
-    let r = p .before .before .before .before .before .pre in
-    let e = rw (g .a .given .1) at (p .subframes-of .ensures .1) in
-    let f = rw (h .b .given .1) at (q .other-of .ensures .1) in (
-      goes-steady (goes-told (q .other-of .ensures .0) (ap toldWalked (h .b .given .1)))
-          (goes-steady (goes-told (p .subframes-of .ensures .0) (ap toldWalked (g .a .given .1))) (r .1 .0)),
-      omega (arith, r .1 .1, p .subframes-of .kept .1 .1 .1 .1 .1 .1 .0, q .other-of .kept .1 .1 .1 .1 .1 .0),
-      omega (arith, e, f, r .1 .2),
-    )
+    let l = othered (c .before .before) in
+    (l .going .stands, omega (arith, l .going .same), omega (arith, l .few))
 
 returns-3 : tie.Need-returns-3
-unfolding rest
+unfolding rest othered framed
 returns-3 c =
     let t = c .before .before in
-    let h = t .before .before .before in
-    let r = h .before .before .before .before in
-    let g = r .before .before .before in
-    let p = g .before .before .before .before in
-    let e = rw (g .a .given .1) at (p .subframes-of .ensures .1) in
-    let f = rw (h .b .given .1) at (r .other-of .ensures .1) in (
-      follow-then _ _ (goes-told (p .subframes-of .ensures .0) (ap toldWalked (g .a .given .1)))
-          (follow-then _ _ (goes-told (r .other-of .ensures .0) (ap toldWalked (h .b .given .1)))
-          (t .alignment-of .ensures .0)),
-      most-more (t .alignment-of .result) (h .b .given .0 .0 + 1) _ (omega (arith, e, f)) (t .alignment-of .ensures .1),
-    )
+    arrives (othered (t .before .before .before)) 1 _ (t .alignment-of .result) refl (omega arith)
+    (t .alignment-of .ensures)
 
 pub rest-of-spec : {M : Type 1} → statement M
 rest-of-spec =

@@ -1,13 +1,11 @@
 -- `walk::subframes_of` meets its contract.
-use mathlib.Core.Path.{ap}
 use Prim.Native.Nat.{_+_, _*_, _≤_}
 use native.Mathlib.Omega.{arith}
 use lib.ListN.{take}
 use borrow.Author.Needs.{needs}
 use Rattle.element.specs.Mux.{subframes}
-use Rattle.walk.specs.Parts.{toldWalked}
 use Rattle.walk.specs.Plan.{slotsBy}
-use Rattle.walk.proofs.Goes.{goes-told, Going, going-itself, going-on, going-off, going-done}
+use Rattle.walk.proofs.Goes.{Going, going-itself, going-on, going-off, going-done}
 use Rattle.walk.proofs.Goes.{subframes-none, subframes-more}
 use Rattle.walk.proofs.subframes_of.Statement.{statement}
 use Rattle.walk.proofs.subframes_of.Tie as tie
@@ -29,13 +27,10 @@ subframe-of-requires c κs = omega arith
 
 returns : tie.Need-returns Inv-loop μ-loop
 returns c =
-    let q = c .enum-told .given .1 in
     let p = c .before .before .before .before in
-    let l = p .before .before .before in (
-      rw q (going-off _ _ (subframes-more _ (l .loop .left) (omega arith))
-          (goes-told (p .subframe-of .ensures .0) (ap toldWalked q)) (l .loop .inv .2)),
-      rw q tt,
-    )
+    let l = p .before .before .before in
+    going-off _ _ (subframes-more _ (l .loop .left) (omega arith)) _ (p .subframe-of .ensures .0)
+    (c .enum-told .given .1) (l .loop .inv .2)
 
 sub-left : tie.Need-sub-left Inv-loop μ-loop
 sub-left c = omega arith
@@ -51,8 +46,7 @@ loop-again c =
       omega arith,
       (let e = rw (g .got .given .1) at (p .subframe-of .ensures .1) in omega arith),
       going-on _ _ (subframes-more _ (l .loop .left) (omega arith))
-          (goes-told (p .subframe-of .ensures .0) (ap toldWalked (g .got .given .1)))
-          (p .subframe-of .kept .1 .1 .1 .1 .1 .0) (l .loop .inv .2),
+          (p .subframe-of .ensures .0) (g .got .given .1) (p .subframe-of .kept .1 .1 .1 .1 .1 .0) (l .loop .inv .2),
     )
 
 returns-2 : tie.Need-returns-2 Inv-loop μ-loop
