@@ -9,7 +9,7 @@ use lib.ListN.{length, drop, replicate}
 use Rattle.kernel.specs.declared.Window.the-variants.{UpTo}
 use Rattle.kernel.specs.declared.Refusal.{Refusal}
 use Rattle.kernel.specs.Bits.{valueAt}
-use Rattle.kernel.specs.Reading.{run}
+use Rattle.kernel.specs.Reading.{run, refusedAt}
 use Rattle.kernel.specs.Answer.{value, refusal, told}
 use Rattle.records.specs.declared.Freq.{Freq}
 use Rattle.records.specs.declared.Freq.the-variants.{Index, Hz}
@@ -82,8 +82,9 @@ unfoldable pub AllComeOut : List Case → Type 0
 AllComeOut [] = Unit {0}
 AllComeOut (c ∷ cs) = ComesOut c × AllComeOut cs
 
+-- as the cases write it
 abbrev pub at : ℕ → ℕ → ℕ → Refusal
-at m p n = record { number = m; place = p; fields = n }
+at = refusedAt
 
 abbrev pub minusOne : ℤ
 minusOne = negsuc 0
