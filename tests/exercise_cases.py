@@ -44,20 +44,20 @@ def good(element, sent):
     case(element.data(), accepted(element.items, element.count, sent))
 
 
-def record(layers, slots, subframes, index=3, channels=2, other=None, crc=None):
-    """layers: streams of each program; slots: for each stream None for frameLengthType 0, else the frameLength of 1."""
+def record(layers, fixed, subframes, index=3, channels=2, other=None, crc=None):
+    """layers: streams of each program; fixed: for each stream None for frameLengthType 0, else the frameLength of 1."""
     audio = Audio(frequency=Index(index), channels=channels)
-    streams = iter([Layer(audio) if slot is None else Layer(audio, 1, slot) for slot in slots])
+    streams = iter([Layer(audio) if length is None else Layer(audio, 1, length) for length in fixed])
     programs = tuple(tuple(next(streams) for _ in range(count)) for count in layers)
     return Mux(programs, subframes=subframes, other=other, crc=crc)
 
 
-def held(slots, *subframes):
-    return held_element(record([1] * len(slots), slots, len(subframes)), subframes)
+def held(fixed, *subframes):
+    return held_element(record([1] * len(fixed), fixed, len(subframes)), subframes)
 
 
-def sent(layers, slots, subframes, **more):
-    return sent_element(record(layers, slots, len(subframes), **more), subframes)
+def sent(layers, fixed, subframes, **more):
+    return sent_element(record(layers, fixed, len(subframes), **more), subframes)
 
 
 def no_room(*parts, size=0):

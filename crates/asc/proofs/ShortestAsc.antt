@@ -90,7 +90,7 @@ module _ (win : Window) where
   flags-end : (p : ℕ) → Ends (λ g q. (q ≡ p + 3) × InWindow win q) (gaSpecificConfig win) p
   unfolding gaSpecificConfig
   flags-end p =
-      end-field win 1 _ λ frame _ _. end-on _ (unset-end (p + 1)) λ d q (e, _). end-on _ (unset-end q) λ x r (f, i).
+      end-field win 1 _ λ flag _ _. end-on _ (unset-end (p + 1)) λ d q (e, _). end-on _ (unset-end q) λ x r (f, i).
       end-give (omega arith, i)
 
   -- behind a flag 1 and its frequency

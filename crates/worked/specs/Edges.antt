@@ -17,9 +17,9 @@ use Rattle.worked.specs.Worked.{Case, element, stopped, row, AllComeOut,
 
 -- a stream by its core type, frequency, channel configuration and frameLengthFlag, of slots by length bytes
 abbrev sizedBy : ℕ → Freq → ℕ → ℕ → ℕ → Stream
-sizedBy core freq channels frame fullness = record {
+sizedBy core freq channels flag fullness = record {
   config =
-      record { core = core; freq = freq; channels = channels; flag = frame; depends = 0; extension = 0; form = None };
+      record { core = core; freq = freq; channels = channels; flag = flag; depends = 0; extension = 0; form = None };
   kind = 0;
   fullness = fullness;
   fixed = 0;

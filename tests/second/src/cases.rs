@@ -1,4 +1,4 @@
-//! Makes captures of sound and damaged elements, junk and false syncs.
+//! Makes captures of good and damaged elements, junk and false syncs.
 
 use crate::capture::Capture;
 use crate::damage;
@@ -37,32 +37,32 @@ pub fn counts(capture: &[u8]) -> [usize; 21] {
     counts
 }
 
-/// A sound element: its record, its slot lengths and its cells.
-pub struct Sound {
+/// A good element: its record, its slot lengths and its cells.
+pub struct Good {
     pub record: Record,
     pub lengths: Vec<u64>,
     pub sheet: Sheet,
 }
 
-pub fn sound(random: &mut Random) -> Sound {
+pub fn good(random: &mut Random) -> Good {
     let most = random.pick(&[20, 20, 60, 60, 60, 250, 250, 250, 1500, 8000]);
     loop {
         let record = draw::record(random);
-        if let Some(sound) = sound_of(record, most, true, random) {
-            return sound;
+        if let Some(good) = good_of(record, most, true, random) {
+            return good;
         }
     }
 }
 
 /// An element of the record with at most `most` bytes, if the draw allows it.
-pub fn sound_of(record: Record, most: u64, send: bool, random: &mut Random) -> Option<Sound> {
+pub fn good_of(record: Record, most: u64, send: bool, random: &mut Random) -> Option<Good> {
     let lengths = draw::lengths(&record, random);
     if lengths.iter().sum::<u64>() + lengths.len() as u64 + record.other_bits / 8 > most {
         return None;
     }
     let sheet = lay_out(&record, send, &lengths, random);
     let fits = sheet.first_bit(sheet.cells.len()) <= 8 * LONGEST_ELEMENT;
-    fits.then_some(Sound {
+    fits.then_some(Good {
         record,
         lengths,
         sheet,
@@ -110,21 +110,21 @@ impl Tape {
         Some(())
     }
 
-    /// A sound element, others that take over its configuration, and damaged
-    /// ones. Without the sound one the others meet an older configuration.
+    /// A good element, others that take over its configuration, and damaged
+    /// ones. Without the good one the others meet an older configuration.
     fn group(&mut self) -> Option<()> {
-        let sound = sound(&mut self.random);
+        let good = good(&mut self.random);
         if !self.random.once_in(5) {
-            self.frame(&sound.sheet.bytes())?;
+            self.frame(&good.sheet.bytes())?;
         }
         for _ in 0..self.random.below(3) {
-            self.follow(&sound.record)?;
+            self.follow(&good.record)?;
         }
         for _ in 0..self.random.between(2, 6) {
-            let damaged = damaged(&sound.sheet, &mut self.random);
+            let damaged = damaged(&good.sheet, &mut self.random);
             self.frame(&damaged)?;
         }
-        self.follow(&sound.record)?;
+        self.follow(&good.record)?;
         if self.random.once_in(6) {
             self.junk()?;
         }
@@ -132,10 +132,10 @@ impl Tape {
     }
 
     fn follow(&mut self, record: &Record) -> Option<()> {
-        let Some(sound) = sound_of(record.clone(), 2000, false, &mut self.random) else {
+        let Some(good) = good_of(record.clone(), 2000, false, &mut self.random) else {
             return Some(());
         };
-        let bytes = sound.sheet.bytes();
+        let bytes = good.sheet.bytes();
         let element = match self.random.below(8) {
             0 => damage::cut(&bytes, &mut self.random),
             1 => damage::turn_bit(&bytes, usize::MAX, &mut self.random),
@@ -154,7 +154,7 @@ impl Tape {
             2 => self.bytes.extend(junk(&mut self.random).iter().take(left)),
             3 => self.fill_with_frame(left),
             _ => {
-                let element = sound(&mut self.random).sheet.bytes();
+                let element = good(&mut self.random).sheet.bytes();
                 let frame = framed(&element);
                 let end = self.random.between(1, frame.len() as u64 - 1) as usize;
                 self.bytes.extend(&frame[..end.min(left)]);
@@ -176,7 +176,7 @@ fn start(tape: &mut Tape) -> Option<()> {
         tape.junk()?;
     }
     for _ in 0..tape.random.below(8) {
-        let record = sound(&mut tape.random).record;
+        let record = good(&mut tape.random).record;
         tape.follow(&record)?;
     }
     if tape.random.once_in(3) {
@@ -254,7 +254,7 @@ pub fn junk(random: &mut Random) -> Vec<u8> {
     junk
 }
 
-/// The bytes of a sound element, damaged in one way or two.
+/// The bytes of a good element, damaged in one way or two.
 pub fn damaged(sheet: &Sheet, random: &mut Random) -> Vec<u8> {
     let bytes = sheet.bytes();
     let header = sheet.first_bit(sheet.header_cells());

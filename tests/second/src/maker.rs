@@ -1,7 +1,7 @@
 //! Makes scripts: every kind of case from a seed.
 
 use crate::broken::{self, Way};
-use crate::cases::{self, framed, sound, sound_of, Sound, LONGEST_SLOT};
+use crate::cases::{self, framed, good, good_of, Good, LONGEST_SLOT};
 use crate::damage::{self, REFUSED_BY};
 use crate::layout::lay_out;
 use crate::random::Random;
@@ -151,30 +151,30 @@ impl Maker {
         self.random.once_in(2)
     }
 
-    /// A sound element with no long slots, mostly.
-    fn small(&mut self) -> Sound {
+    /// A good element with no long slots, mostly.
+    fn small(&mut self) -> Good {
         loop {
-            let sound = sound(&mut self.random);
-            let bytes: u64 = sound.lengths.iter().sum();
-            if bytes + sound.record.other_bits / 8 < 600 && sound.lengths.len() < 200 {
-                return sound;
+            let good = good(&mut self.random);
+            let bytes: u64 = good.lengths.iter().sum();
+            if bytes + good.record.other_bits / 8 < 600 && good.lengths.len() < 200 {
+                return good;
             }
         }
     }
 
     /// An element that takes over the record, where the draw allows it.
     fn follow(&mut self, record: &Record) {
-        if let Some(sound) = sound_of(record.clone(), 2000, false, &mut self.random) {
+        if let Some(good) = good_of(record.clone(), 2000, false, &mut self.random) {
             let room = self.room();
-            self.read(room, sound.sheet.bytes());
+            self.read(room, good.sheet.bytes());
         }
     }
 
-    fn content(&mut self, sound: &Sound) -> Content {
-        let bytes: u64 = sound.lengths.iter().sum();
-        let other = sound.record.other_bits.div_ceil(8);
+    fn content(&mut self, good: &Good) -> Content {
+        let bytes: u64 = good.lengths.iter().sum();
+        let other = good.record.other_bits.div_ceil(8);
         Content {
-            lengths: sound.lengths.iter().map(|length| *length as u32).collect(),
+            lengths: good.lengths.iter().map(|length| *length as u32).collect(),
             payload: self.random.bytes(bytes as usize),
             other: self.random.bytes(other as usize),
         }
@@ -184,39 +184,39 @@ impl Maker {
     fn nothing_held(&mut self) {
         self.put(Case::Rows);
         self.read(ENOUGH, vec![0x80, 0x00]);
-        let sound = self.small();
-        let content = self.content(&sound);
+        let good = self.small();
+        let content = self.content(&good);
         self.write(true, 9000, &content);
-        self.read(ENOUGH, sound.sheet.bytes());
-        self.follow(&sound.record);
+        self.read(ENOUGH, good.sheet.bytes());
+        self.follow(&good.record);
         self.put(Case::Rows);
     }
 
     /// A held record that 16 refuses: nothing is held, nothing is written.
     fn broken(&mut self, way: Way) {
-        let (sound, record) = loop {
-            let sound = self.small();
-            let mut record = sound.record.clone();
+        let (good, record) = loop {
+            let good = self.small();
+            let mut record = good.record.clone();
             way(&mut record, &mut self.random);
             if !record.is_sendable() {
-                break (sound, record);
+                break (good, record);
             }
         };
         self.hold(true, &record);
-        let element = lay_out(&sound.record, false, &sound.lengths, &mut self.random);
+        let element = lay_out(&good.record, false, &good.lengths, &mut self.random);
         self.read(ENOUGH, element.bytes());
         if self.random.once_in(3) && rows_are_clear(&record) {
             self.put(Case::Rows);
         }
-        let mut content = self.content(&sound);
+        let mut content = self.content(&good);
         if self.random.once_in(4) {
             content.lengths.push(0);
         }
         let (send, room) = (self.coin(), self.random.pick(&[9000, 9000, 0]));
         self.write(send, room, &content);
         if self.random.once_in(4) {
-            self.read(ENOUGH, sound.sheet.bytes());
-            self.follow(&sound.record);
+            self.read(ENOUGH, good.sheet.bytes());
+            self.follow(&good.record);
         }
     }
 
@@ -252,53 +252,53 @@ impl Maker {
     }
 
     fn reads(&mut self) {
-        let sound = sound(&mut self.random);
+        let good = good(&mut self.random);
         let room = self.room();
         let sent = !self.random.once_in(5);
         if sent {
-            self.read(room, sound.sheet.bytes());
+            self.read(room, good.sheet.bytes());
         }
         // What an earlier group left may have rows that aren't clear.
         if self.coin() && sent {
             self.put(Case::Rows);
         }
-        self.follow(&sound.record);
+        self.follow(&good.record);
         for _ in 0..self.random.between(2, 5) {
-            let element = cases::damaged(&sound.sheet, &mut self.random);
+            let element = cases::damaged(&good.sheet, &mut self.random);
             let room = self.room();
             self.read(room, element);
         }
         for _ in 0..2 {
-            if let Some(spoiled) = damage::change_asc_len(&sound.sheet, &mut self.random) {
+            if let Some(spoiled) = damage::change_asc_len(&good.sheet, &mut self.random) {
                 self.read(ENOUGH, spoiled.sheet.bytes());
             }
         }
-        self.follow(&sound.record);
+        self.follow(&good.record);
     }
 
     /// Maps too short, before anything else is looked at, and long enough; an
     /// element with bytes added, and cut.
     fn rooms(&mut self) {
-        let sound = self.small();
+        let good = self.small();
         let any = self.random.below(4367) as u16;
         for room in [0, 4367, 4368, 4400, any] {
-            self.read(room, sound.sheet.bytes());
+            self.read(room, good.sheet.bytes());
         }
         self.read(4367, Vec::new());
         self.read(0, vec![0; LONGEST_ELEMENT + 1]);
         self.read(4368, Vec::new());
-        let longer = damage::add_bytes(&sound.sheet.bytes(), &mut self.random);
+        let longer = damage::add_bytes(&good.sheet.bytes(), &mut self.random);
         self.read(4368, longer);
-        let shorter = damage::cut(&sound.sheet.bytes(), &mut self.random);
+        let shorter = damage::cut(&good.sheet.bytes(), &mut self.random);
         self.read(4368, shorter);
-        self.follow(&sound.record);
+        self.follow(&good.record);
     }
 
     /// Records lent as held, present or not, with their values at the edges.
     fn holds(&mut self) {
-        let sound = self.small();
-        let mut record = sound.record.clone();
-        let element = lay_out(&record, false, &sound.lengths, &mut self.random).bytes();
+        let good = self.small();
+        let mut record = good.record.clone();
+        let element = lay_out(&record, false, &good.lengths, &mut self.random).bytes();
         for present in [true, false] {
             self.hold(present, &record);
             self.read(ENOUGH, element.clone());
@@ -308,23 +308,23 @@ impl Maker {
         record.other_bits = self.random.pick(&[0xFFFF_FFFF, 0x8000_0000, 70_000]);
         self.hold(true, &record);
         self.read(ENOUGH, element);
-        let mut content = self.content(&sound);
+        let mut content = self.content(&good);
         content.other = self.random.bytes(3);
         self.write(true, 9000, &content);
     }
 
     /// Outputs one byte too short, just right and longer.
     fn writes(&mut self) {
-        let sound = self.small();
-        let content = self.content(&sound);
+        let good = self.small();
+        let content = self.content(&good);
         if self.coin() {
             let present = self.coin();
-            self.hold(present, &sound.record);
+            self.hold(present, &good.record);
         } else {
-            self.read(ENOUGH, sound.sheet.bytes());
+            self.read(ENOUGH, good.sheet.bytes());
         }
         for send in [true, false] {
-            let size = written(&sound.record, send, &content) as u16;
+            let size = written(&good.record, send, &content) as u16;
             let more = size + self.random.between(1, 40) as u16;
             for room in [size - 1, size, more] {
                 self.write(send, room, &content);
@@ -336,9 +336,9 @@ impl Maker {
 
     /// Lengths, payload or other data that don't fit the record.
     fn wrong_writes(&mut self) {
-        let sound = self.small();
-        self.hold(true, &sound.record);
-        let content = self.content(&sound);
+        let good = self.small();
+        self.hold(true, &good.record);
+        let content = self.content(&good);
         let changes: [fn(&mut Content, &mut Random); 9] = [
             |content, _| content.lengths.clear(),
             |content, _| content.lengths.push(0),

@@ -4,18 +4,18 @@ mod common;
 
 use common::refusal;
 use second::capture::Capture;
-use second::cases::{capture, counts, sound, Sound};
+use second::cases::{capture, counts, good, Good};
 use second::damage::{self, REFUSED_BY};
 use second::layout::Name;
 use second::random::Random;
 use second::read::{read, Item, Kind, MAP_NUMBERS};
 use second::sync::LONGEST_CAPTURE;
 
-fn expected_items(sound: &Sound) -> Vec<Item> {
-    let record = &sound.record;
-    let header = sound.sheet.first_bit(sound.sheet.header_cells()) as u64;
+fn expected_items(good: &Good) -> Vec<Item> {
+    let record = &good.record;
+    let header = good.sheet.first_bit(good.sheet.header_cells()) as u64;
     let mut parts = vec![(Kind::Flag, 0, 1), (Kind::Configuration, 0, header - 1)];
-    for lengths in sound.lengths.chunks(record.stream_count()) {
+    for lengths in good.lengths.chunks(record.stream_count()) {
         let sent = record
             .streams
             .iter()
@@ -53,17 +53,17 @@ fn expected_items(sound: &Sound) -> Vec<Item> {
 }
 
 #[test]
-fn sound_elements_are_read_as_laid_out() {
+fn good_elements_are_read_as_laid_out() {
     let mut random = Random::new(3);
     for _ in 0..1000 {
-        let sound = sound(&mut random);
-        let reading = read(&sound.sheet.bytes(), None, MAP_NUMBERS).expect("a sound element");
-        assert_eq!(reading.held, sound.record);
+        let good = good(&mut random);
+        let reading = read(&good.sheet.bytes(), None, MAP_NUMBERS).expect("a good element");
+        assert_eq!(reading.held, good.record);
         assert_eq!(
             reading.fields,
-            sound.sheet.fields_before(sound.sheet.cells.len()) as u64
+            good.sheet.fields_before(good.sheet.cells.len()) as u64
         );
-        assert_eq!(reading.items, expected_items(&sound));
+        assert_eq!(reading.items, expected_items(&good));
         let fields = [Kind::Flag, Kind::Configuration, Kind::Lengths];
         let bits = reading
             .items
@@ -78,9 +78,9 @@ fn values_out_of_range_are_refused_at_their_field() {
     let mut random = Random::new(4);
     let mut met = [0; 21];
     for _ in 0..400 {
-        let sound = sound(&mut random);
+        let good = good(&mut random);
         for (name, number) in REFUSED_BY {
-            let Some(spoiled) = damage::spoil(&sound.sheet, name, &mut random) else {
+            let Some(spoiled) = damage::spoil(&good.sheet, name, &mut random) else {
                 continue;
             };
             // Type 31 takes bits that aren't a cell of their own here.
@@ -103,7 +103,7 @@ fn values_out_of_range_are_refused_at_their_field() {
 fn cut_elements_are_refused_where_they_end() {
     let mut random = Random::new(5);
     for _ in 0..400 {
-        let sheet = sound(&mut random).sheet;
+        let sheet = good(&mut random).sheet;
         let bytes = sheet.bytes();
         let cut = random.below(bytes.len() as u64) as usize;
         if cut == 0 {
@@ -124,7 +124,7 @@ fn cut_elements_are_refused_where_they_end() {
 fn bytes_added_are_refused() {
     let mut random = Random::new(6);
     for _ in 0..400 {
-        let sheet = sound(&mut random).sheet;
+        let sheet = good(&mut random).sheet;
         let mut bytes = sheet.bytes();
         let expected = refusal(
             15,
@@ -142,18 +142,18 @@ fn asc_len_too_short_is_refused_at_the_last_field() {
     let mut random = Random::new(7);
     let mut met = 0;
     for _ in 0..400 {
-        let sound = sound(&mut random);
-        let Some(count) = sound.sheet.places(Name::AscLenCount).first().copied() else {
+        let good = good(&mut random);
+        let Some(count) = good.sheet.places(Name::AscLenCount).first().copied() else {
             continue;
         };
-        let first = count + 2 + sound.sheet.cells[count].value() as usize;
+        let first = count + 2 + good.sheet.cells[count].value() as usize;
         let extension = (first..)
-            .find(|cell| sound.sheet.cells[*cell].name == Name::ExtensionFlag)
+            .find(|cell| good.sheet.cells[*cell].name == Name::ExtensionFlag)
             .unwrap();
         let core: usize = (first..=extension)
-            .map(|cell| sound.sheet.cells[cell].bits.len())
+            .map(|cell| good.sheet.cells[cell].bits.len())
             .sum();
-        let mut sheet = sound.sheet.clone();
+        let mut sheet = good.sheet.clone();
         for (after, cell) in (count + 1..first).rev().enumerate() {
             sheet.cells[cell].set((core as u64 - 1) >> (8 * after));
         }
