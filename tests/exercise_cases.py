@@ -15,6 +15,9 @@ import sys
 
 from layout import Audio, Element, Index, Layer, Mux, held_element, sent_element
 
+RECORD_WORDS = 250
+HELD_BYTES = 1 + 4 * RECORD_WORDS  # whether one is held, and its words
+
 
 def accepted(items, count, sent):
     head = f"accepted, items {len(items)}, fields {count}, configuration {'sent' if sent else 'held'}\n"
@@ -192,13 +195,13 @@ def size(script, at):
     kind = script[at : at + 1]
     if kind == b"P":
         return sized(sized(6 + 4 * number(4, 2)))
-    return {b"H": 1002, b"R": 5 + number(3, 2), b"W": 1, b"S": sized(5), b"F": sized(3)}[kind]
+    return {b"H": 1 + HELD_BYTES, b"R": 5 + number(3, 2), b"W": 1, b"S": sized(5), b"F": sized(3)}[kind]
 
 
 def made(second, seed, kinds, most):
     """The cases of a seed that are of these kinds and not too long, with nothing held before them."""
     script = subprocess.run([second, "script", str(seed)], check=True, stdout=subprocess.PIPE).stdout
-    yield b"H" + bytes(1001)
+    yield b"H" + bytes(HELD_BYTES)
     at = 0
     while at < len(script):
         end = at + size(script, at)

@@ -17,6 +17,55 @@ use records::Stream;
 use records::no_record;
 use records::no_stream;
 
+// The words of a stream, and of what a record has once, by the names that include/schilfauge.h gives them.
+const STREAM_CORE: usize = 0;
+
+const STREAM_CHOICE: usize = 1;
+
+const STREAM_FREQUENCY: usize = 2;
+
+const STREAM_CHANNELS: usize = 3;
+
+const STREAM_FLAG: usize = 4;
+
+const STREAM_DEPENDS: usize = 5;
+
+const STREAM_EXTENSION: usize = 6;
+
+const STREAM_FORM: usize = 7;
+
+const STREAM_FORM_CHOICE: usize = 8;
+
+const STREAM_FORM_FREQUENCY: usize = 9;
+
+const STREAM_PS: usize = 10;
+
+const STREAM_KIND: usize = 11;
+
+const STREAM_FULLNESS: usize = 12;
+
+const STREAM_FIXED: usize = 13;
+
+const RECORD_VERSION: usize = 0;
+
+const RECORD_SUBVERSION: usize = 1;
+
+const RECORD_TARA: usize = 2;
+
+const RECORD_FRAMING: usize = 3;
+
+const RECORD_SUBFRAMES: usize = 4;
+
+const RECORD_PROGRAMS: usize = 5;
+
+const RECORD_OTHER: usize = 6;
+
+const RECORD_BITS: usize = 7;
+
+const RECORD_CHECKED: usize = 8;
+
+const RECORD_CRC: usize = 9;
+
 fn freq_from(choice: u32, n: u32) -> Freq
     ensures { λ r. ⌜ r ≡ freqFrom choice n ⌝ }
 {
@@ -44,23 +93,23 @@ fn stream_from(w: &[u32]) -> Stream
     requires { ⌜ streamSize ≤ length (now w) ⌝ }
     ensures { λ r. ⌜ r ≡ streamFrom (now (w .entry)) ⌝ }
 {
-    let x = freq_from(w[1], w[2]);
-    let y = freq_from(w[8], w[9]);
-    let f = form_from(w[7], y, w[10]);
+    let x = freq_from(w[STREAM_CHOICE], w[STREAM_FREQUENCY]);
+    let y = freq_from(w[STREAM_FORM_CHOICE], w[STREAM_FORM_FREQUENCY]);
+    let f = form_from(w[STREAM_FORM], y, w[STREAM_PS]);
     let c = Config {
-        core: w[0],
+        core: w[STREAM_CORE],
         freq: x,
-        channels: w[3],
-        flag: w[4],
-        depends: w[5],
-        extension: w[6],
+        channels: w[STREAM_CHANNELS],
+        flag: w[STREAM_FLAG],
+        depends: w[STREAM_DEPENDS],
+        extension: w[STREAM_EXTENSION],
         form: f,
     };
     Stream {
         config: c,
-        kind: w[11],
-        fullness: w[12],
-        fixed: w[13],
+        kind: w[STREAM_KIND],
+        fullness: w[STREAM_FULLNESS],
+        fixed: w[STREAM_FIXED],
     }
 }
 
@@ -99,16 +148,16 @@ fn record_from(w: &[u32]) -> Record
     let layers = layers_from(w);
     let streams = streams_from(w);
     Record {
-        version: w[0],
-        subversion: w[1],
-        tara: w[2],
-        framing: w[3],
-        subframes: w[4],
-        programs: w[5],
-        other: w[6],
-        bits: w[7],
-        checked: w[8],
-        crc: w[9],
+        version: w[RECORD_VERSION],
+        subversion: w[RECORD_SUBVERSION],
+        tara: w[RECORD_TARA],
+        framing: w[RECORD_FRAMING],
+        subframes: w[RECORD_SUBFRAMES],
+        programs: w[RECORD_PROGRAMS],
+        other: w[RECORD_OTHER],
+        bits: w[RECORD_BITS],
+        checked: w[RECORD_CHECKED],
+        crc: w[RECORD_CRC],
         layers: layers,
         streams: streams,
     }

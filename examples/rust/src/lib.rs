@@ -52,7 +52,15 @@ mod c {
 
 pub const CAPTURE_BYTES: usize = 65536;
 pub const MAP_WORDS: usize = 4368;
-const HELD_WORDS: usize = 251;
+
+// The words of a record, as include/schilfauge.h builds them up, and those held: 1 more where one is present.
+const PROGRAMS: usize = 16;
+const STREAMS: usize = 16;
+const STREAM_WORDS: usize = 14;
+const RECORD_LAYERS: usize = 10;
+const RECORD_STREAMS: usize = RECORD_LAYERS + PROGRAMS;
+const RECORD_WORDS: usize = RECORD_STREAMS + STREAMS * STREAM_WORDS;
+const HELD_WORDS: usize = RECORD_WORDS + 1;
 
 /// A refusal: its number, and of an element the bit where the reading stopped and the fields read by then.
 #[derive(Clone, Copy, Debug, PartialEq, Eq)]
