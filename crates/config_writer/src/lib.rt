@@ -184,8 +184,8 @@ fn put_mux_ending(out: &mut [u8], at: usize, r: Record) -> usize
 
 // A whole StreamMuxConfig.
 pub fn put_mux(out: &mut [u8], at: usize, r: Record) -> usize
-    requires { ⌜ (at + 3000 ≤ 1000000) × (r .programs ≤ 15) × (streamsIn (r .layers) (r .programs) 16 ≤ 16) ⌝ }
-    ensures { λ x. ⌜ (x ≤ at + 3000) × Put (now (out .entry)) at (muxBits r) (now (out .exit)) x ⌝ }
+    requires { ⌜ (at + 2973 ≤ 1000000) × (r .programs ≤ 15) × (streamsIn (r .layers) (r .programs) 16 ≤ 16) ⌝ }
+    ensures { λ x. ⌜ (x ≤ at + 2973) × Put (now (out .entry)) at (muxBits r) (now (out .exit)) x ⌝ }
 {
     let layers = r.layers;
     let streams = r.streams;
