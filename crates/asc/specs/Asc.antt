@@ -1,4 +1,5 @@
--- AudioSpecificConfig and GASpecificConfig, in a window that ascLen gives (version 1) or that is open (version 0).
+-- AudioSpecificConfig and GASpecificConfig, in a window that ascLen gives (version 1) or that is open (version 0). What
+-- is written for a part is named with `Bits` and stands behind it.
 use mathlib.Core.Bool.{Bool, cond, _&&_, _||_}
 use mathlib.Core.List.{List, []}
 use Prim.Native.Nat.{ℕ, _+_, _-_}
@@ -14,6 +15,7 @@ use Rattle.records.specs.declared.Form.the-variants.{None, Type5, Type29, Flag0
 use Rattle.records.specs.declared.Config.{Config}
 use Rattle.asc.specs.declared.Flags.{Flags}
 
+-- the types carried: a core, and what stands first, a core or type 5 or 29 in front of one
 abbrev pub isCore : ℕ → Bool
 isCore t = leb 1 t && leb t 4
 
@@ -32,13 +34,14 @@ anyType win = do
   t ← field win 5
   choose (eqb t 31) (field win 6 >>= λ x. give (32 + x)) (give t)
 
--- samplingFrequencyIndex, and samplingFrequency where it is 15
+-- samplingFrequency in 24 bits, of which 0 Hz is refused
 unfoldable pub hertz : Window → Reading Freq
 hertz win = do
   h ← field win 24
   need (leb 1 h) 9 24
   give (Hz h)
 
+-- samplingFrequencyIndex, and samplingFrequency where it is 15
 unfoldable pub frequency : Window → Reading Freq
 frequency win = do
   i ← field win 4
@@ -48,6 +51,7 @@ unfoldable pub freqBits : Freq → List Bool
 freqBits (Index i) = bitsOf 4 i
 freqBits (Hz h) = bitsOf 4 15 ⧺ bitsOf 24 h
 
+-- channelConfiguration, 1 to 7
 unfoldable pub channelConfiguration : Window → Reading ℕ
 channelConfiguration win = do
   c ← field win 4
@@ -72,6 +76,7 @@ psExtension x win = do
   sync ← field win 11
   choose (eqb sync 1352) (field win 1 >>= λ f. give (FlagPs x f)) (give (Flag1 x))
 
+-- 0x548 is looked for where 12 bits are left
 unfoldable pub psTail : Freq → Window → Reading Form
 psTail x win = do
   p ← here
@@ -89,12 +94,13 @@ extensionType win = do
   t ← anyType win
   choose (eqb t 5) (sbrExtension win) (choose (eqb t 22) (refuse 8 5) (give None))
 
+-- 0x2B7, and what follows it; other bits say nothing
 unfoldable pub syncExtension : Window → Reading Form
 syncExtension win = do
   sync ← field win 11
   choose (eqb sync 695) (extensionType win) (give None)
 
--- the tail behind the flags
+-- the tail behind the flags: 0x2B7 is looked for where 16 bits are left
 unfoldable pub tail : Window → Reading Form
 tail win = do
   p ← here
@@ -120,6 +126,7 @@ gaSpecificConfig win = do
   extension ← unset win
   give (record { flag = flag; depends = depends; extension = extension })
 
+-- its parts put together
 abbrev pub configOf : ℕ → Freq → ℕ → Flags → Form → Config
 configOf t f c g m =
     record {
@@ -148,6 +155,7 @@ underFront t f c win = do
   g ← gaSpecificConfig win
   give (configOf core f c g (inFront t x))
 
+-- AudioSpecificConfig
 unfoldable pub audioSpecificConfig : Window → Reading Config
 audioSpecificConfig win = do
   t ← objectType isFront win

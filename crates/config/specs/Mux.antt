@@ -1,4 +1,4 @@
--- StreamMuxConfig.
+-- StreamMuxConfig. What is written for a part is named with `Bits` and stands behind it.
 use mathlib.Core.Bool.{Bool, cond}
 use mathlib.Core.List.{List, []}
 use Prim.Native.Nat.{ℕ, zero, suc, _+_, _-_}
@@ -28,6 +28,7 @@ windowed = do
   pass Open (p + n - q)
   give c
 
+-- AudioSpecificConfig as the version sends it
 unfoldable pub configuration : ℕ → Reading Config
 configuration version = choose (eqb version 1) windowed (audioSpecificConfig Open)
 
@@ -63,6 +64,7 @@ layerBits version next before s =
     (cond (sameConfig before (s .config)) (bitsOf 1 1) (bitsOf 1 0 ⧺ configBits version (s .config)))
     ⧺ frameLengthBits s
 
+-- the configuration of stream i
 abbrev pub configAt : List Stream → ℕ → Config
 configAt streams i = getD streams i noStream .config
 
@@ -132,6 +134,7 @@ muxHeadBits r =
     ⧺ cond (eqb (r .version) 1) (valueBits (r .tara)) []
     ⧺ bitsOf 1 (r .framing) ⧺ bitsOf 6 (r .subframes) ⧺ bitsOf 4 (r .programs)
 
+-- otherDataLenBits: LatmGetValue in version 1, and groups in version 0
 unfoldable pub otherLength : ℕ → Reading ℕ
 otherLength version = choose (eqb version 1) latmGetValue (groupsFrom 4 0)
 
@@ -150,9 +153,11 @@ muxEndingBits r =
     (cond (eqb (r .version) 1) (valueBits (r .bits)) (groupBits (r .bits))) []
     ⧺ bitsOf 1 (r .checked) ⧺ cond (eqb (r .checked) 1) (bitsOf 8 (r .crc)) []
 
+-- nothing read yet of programs and streams
 abbrev pub noPlaces : Places
 noPlaces = record { layers = replicate 16 0; streams = replicate 16 noStream }
 
+-- the record of its three parts
 abbrev pub recordOf : Head → Places → Ending → Record
 recordOf h g t = record {
   version = h .version;
@@ -169,6 +174,7 @@ recordOf h g t = record {
   crc = t .crc;
 }
 
+-- StreamMuxConfig
 unfoldable pub streamMuxConfig : Reading Record
 streamMuxConfig = do
   h ← muxHead

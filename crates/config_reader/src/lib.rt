@@ -1,4 +1,4 @@
-// The readers of StreamMuxConfig, one for each production of specs/.
+// The readers of StreamMuxConfig, one for each production of crates/config/specs/Mux.antt.
 mod ending_fields;
 mod head_fields;
 mod layers;

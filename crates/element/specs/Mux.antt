@@ -73,6 +73,7 @@ payloadMux i (w ∷ ws) = over closed kindP i w (payloadMux (i + 1) ws)
 unfoldable pub subframe : List (Reading ℕ) → Element Unit
 subframe slots = part (List ℕ) kindL (payloadLengthInfo [] slots) λ ws. payloadMux 0 ws
 
+-- n of them
 unfoldable pub subframes : ℕ → List (Reading ℕ) → Element Unit
 subframes zero slots = done tt
 subframes (suc n) slots = follow (subframe slots) λ _. subframes n slots
@@ -90,15 +91,18 @@ byteAlignment = spot λ p. passOver spare kindA 0 ((8 - p % 8) % 8)
 unfoldable pub rest : ℕ → List (Reading ℕ) → Bool → ℕ → Element Unit
 rest n slots other bits = follow (subframes n slots) λ _. follow (otherData other bits) λ _. byteAlignment
 
+-- the streams that a record has, and the slot of each
 abbrev pub streamsOf : Record → List Stream
 streamsOf r = take (streamsIn (r .layers) (r .programs) 16) (r .streams)
 
 abbrev pub slotsOf : List Stream → List (Reading ℕ)
 slotsOf ss = map (λ s. slotOf (s .kind) (s .fixed)) ss
 
+-- what follows this configuration
 abbrev pub body : Record → Element Unit
 body r = rest (r .subframes + 1) (slotsOf (streamsOf r)) (eqb (r .other) 1) (r .bits)
 
+-- the same, with the answer
 unfoldable pub applied : Applied → Element Applied
 applied a = follow (body (a .config)) λ _. done a
 
@@ -106,12 +110,14 @@ applied a = follow (body (a .config)) λ _. done a
 abbrev pub usable : Held → Bool
 usable h = h .present && validOf (h .config)
 
+-- useSameStreamMux, which may be 1 where one is held
 unfoldable pub useSameStreamMux : Bool → Reading ℕ
 useSameStreamMux held = do
   u ← field Open 1
   need (eqb u 0 || held) 4 1
   give u
 
+-- a configuration is sent, and applies
 abbrev pub sentElement : Element Applied
 sentElement = part Record kindC streamMuxConfig λ r. applied (record { sent = true; config = r })
 
@@ -120,5 +126,6 @@ unfoldable pub afterFlag : Bool → Record → Element Applied
 afterFlag true held = applied (record { sent = false; config = held })
 afterFlag false held = sentElement
 
+-- AudioMuxElement(1)
 unfoldable pub audioMuxElement : Held → Element Applied
 audioMuxElement h = part ℕ kindU (useSameStreamMux (usable h)) λ u. afterFlag (eqb u 1) (h .config)

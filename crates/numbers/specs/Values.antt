@@ -24,6 +24,7 @@ latmGetValue = do
 abbrev pub fewest : ℕ → ℕ
 fewest v = cond (ltb v 256) 0 (cond (ltb v 65536) 1 (cond (ltb v 16777216) 2 3))
 
+-- what is written for it: the fewest bytes
 unfoldable pub valueBits : ℕ → List Bool
 valueBits v = bitsOf 2 (fewest v) ⧺ bitsOf (8 * (fewest v + 1)) v
 
@@ -41,5 +42,6 @@ unfoldable pub groupsAfter : ℕ → ℕ → List Bool
 groupsAfter zero v = bitsOf 1 0 ⧺ bitsOf 8 v
 groupsAfter (suc k) v = bitsOf 1 1 ⧺ bitsOf 8 (v / 2 ^ (8 * suc k)) ⧺ groupsAfter k v
 
+-- what is written for such a length: the fewest groups
 abbrev pub groupBits : ℕ → List Bool
 groupBits v = groupsAfter (fewest v) v

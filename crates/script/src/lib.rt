@@ -2,7 +2,9 @@
 // the words of its answers.
 mod answers;
 mod input;
+// A map that is lent: set, and said.
 pub mod map;
+// Bytes that are lent to be written to: set, and said.
 pub mod output;
 
 pub use answers::say;
