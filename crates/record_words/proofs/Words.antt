@@ -1,6 +1,6 @@
 -- Laws of a record's words.
 use mathlib.Core.Path.{_≡_, refl, sym, _∙_, ap}
-use mathlib.Core.Bool.{Bool, true, false}
+use mathlib.Core.Bool.{true, false}
 use mathlib.Core.List.{List, [], _∷_, _++_, append-assoc, append-nil}
 use Prim.Native.Nat.{ℕ, zero, suc, _+_, _-_, _*_, _≤_, _<_}
 use native.Mathlib.Numerals.{add-one}
@@ -9,7 +9,7 @@ use lib.ListN.{length, getD, take, drop, replicate, length-append, length-drop, 
 use lib.Seq.{drop-cons, drop-at, drop-drop, drop-append-add, getD-drop, getD-take, ext-getD, take-length}
 use lib.Seq.{length-take-le}
 use borrow.Author.Tests.{eqb-true, eq-eqb, le-leb, lt-leb}
-use Rattle.kernel.specs.Lists.{allOf, Stored}
+use Rattle.kernel.specs.Lists.{Stored}
 use Rattle.kernel.proofs.Lists.{length-tab, getD-tab, stored-front}
 use Rattle.kernel.proofs.Tests.{all-of, all-yes}
 use Rattle.records.specs.declared.Freq.{Freq}

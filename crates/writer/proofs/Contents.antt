@@ -6,7 +6,7 @@ use Prim.Native.Nat.{ℕ, zero, suc, _+_, _-_, _*_, _≤_}
 use native.Mathlib.Omega.{arith}
 use lib.Dec.{eqb}
 use lib.ListN.{length, getD, take, drop, length-append, length-drop}
-use lib.Seq.{take-append-seam, drop-append-seam, take-add, drop-drop}
+use lib.Seq.{take-append-seam, drop-append-seam, drop-drop}
 use Rattle.kernel.specs.Bits.{unpack}
 use Rattle.kernel.proofs.Held.{unpack-split, length-first}
 use Rattle.records.specs.declared.Stream.{Stream}
