@@ -5,23 +5,35 @@ use mathlib.Core.List.{List, _++_}
 use Prim.Native.Nat.{ℕ, zero, suc, _+_, _*_, _-_, _/_, _^_, _≤_, _<_}
 use native.Mathlib.Omega.{arith}
 use lib.Dec.{leb, eqb}
-use lib.Pow.{pow-add}
-use borrow.Author.Tests.{eq-eqb, ne-eqb, le-leb, lt-leb, leb-true, leb-false}
+use lib.Pow.{pow-add, pow-mono}
+use borrow.Author.Tests.{le-leb, lt-leb, leb-true, leb-false}
 use Rattle.kernel.specs.declared.Window.the-variants.{Open}
 use Rattle.kernel.specs.declared.Cursor.{Cursor}
-use Rattle.kernel.specs.declared.Refusal.{Refusal}
 use Rattle.kernel.specs.Bits.{bitsOf}
-use Rattle.kernel.specs.Reading.{Reading, field, refusedAt, Stands}
-use Rattle.kernel.specs.Answer.{Told, value, refusal}
-use Rattle.kernel.proofs.Chain.{Comes, gives, on, off, holds, fails, yes-way, no-way, itself, goes-on, took}
+use Rattle.kernel.specs.Reading.{Reading, give, field, choose, need, _>>=_, _>>_}
+use Rattle.kernel.proofs.Along.{Remains}
 use Rattle.numbers.specs.Values.{bytesFrom, groupsFrom, groupsAfter}
 
--- a loop that adds a byte to v each turn, with `left` of n turns left: what is left comes to what the whole does
-pub record Adding (n left v : ℕ) (s : List ℕ) (c : Cursor) (m : Reading ℕ) (whole : Told ℕ) : Type 0 where
+-- a loop that adds a byte to v each turn, with `left` of n turns left
+pub record Adding (n left v : ℕ) (s : List ℕ) (all : Reading ℕ) (c₀ : Cursor) (rest : Reading ℕ) (c : Cursor)
+    : Type 0 where
   pub few : left ≤ n
-  pub stands : Stands s (c .at) (c .fields)
   pub small : v < 2 ^ (8 * (n - left))
-  pub comes : Comes s m (c .at) (c .fields) whole
+  pub remains : Remains s all (c₀ .at) (c₀ .fields) rest (c .at) (c .fields)
+
+-- a byte more
+pub byte-more : (v b m : ℕ) → v < 2 ^ m → b < 2 ^ 8 → 256 * v + b < 2 ^ (m + 8)
+byte-more v b m h g = omega (arith, pow-add 2 m 8)
+
+module _ {n left v : ℕ} {s : List ℕ} {all : Reading ℕ} {c₀ : Cursor} {rest : Reading ℕ} {c : Cursor}
+    (h : Adding n left v s all c₀ rest c) (some : 0 < left) {b : ℕ} (byte : b < 2 ^ 8) where
+  pub more-small : 256 * v + b < 2 ^ (8 * (n - (left - 1)))
+  more-small =
+      let k : 8 * (n - (left - 1)) ≡ 8 * (n - left) + 8 = omega arith in
+      rw k (byte-more v b (8 * (n - left)) (h .small) byte)
+
+  pub more-fits : n ≤ 4 → 256 * v + b < 4294967296
+  more-fits g = omega (arith, more-small, pow-mono {i = 8 * (n - (left - 1))} {j = 32} (omega arith))
 
 two-leb : (n : ℕ) → leb 2 (suc n) ≡ leb 1 n
 two-leb n = go (leb 1 n) refl
@@ -30,73 +42,27 @@ two-leb n = go (leb 1 n) refl
     go true e = le-leb 2 (suc n) (omega (arith, leb-true 1 n e))
     go false e = lt-leb 2 (suc n) (omega (arith, leb-false 1 n e))
 
-module _ {s : List ℕ} {at k : ℕ} where
-  pub bytes-done : (n v : ℕ) → n ≡ 0 → Comes s (bytesFrom n v) at k (value v at k)
-  unfolding bytesFrom
-  bytes-done n v h = rw h gives
+-- what is left of them before a turn, and behind the last
+pub bytes-more : (n v : ℕ) → 0 < n → bytesFrom n v ≡ (field Open 8 >>= λ b. bytesFrom (n - 1) (256 * v + b))
+unfolding bytesFrom
+bytes-more zero v h = absurd (omega arith)
+bytes-more (suc n) v h = let p : suc n - 1 ≡ n = omega arith in rw p
 
-  pub bytes-turn : (n v : ℕ) {b at′ k′ : ℕ} {o : Told ℕ} → 0 < n → Comes s (field Open 8) at k (value b at′ k′)
-      → Comes s (bytesFrom n v) at k o → Comes s (bytesFrom (n - 1) (256 * v + b)) at′ k′ o
-  unfolding bytesFrom
-  bytes-turn zero v h e q = absurd (omega arith)
-  bytes-turn (suc n) v h e q =
-      let p : suc n - 1 ≡ n = omega arith in rw p (goes-on (bytesFrom n _) _ _ (on _ e itself) q)
+pub bytes-none : (n v : ℕ) → n ≡ 0 → bytesFrom n v ≡ give v
+unfolding bytesFrom
+bytes-none n v h = rw h
 
-  pub bytes-stop : (n v : ℕ) {x : Refusal} → 0 < n → Comes s (field Open 8) at k (refusal x)
-      → Comes s (bytesFrom n v) at k (refusal x)
-  unfolding bytesFrom
-  bytes-stop zero v h e = absurd (omega arith)
-  bytes-stop (suc n) v h e = off _ e
+pub groups-more : (n v : ℕ) → 0 < n
+    → groupsFrom n v
+    ≡ (field Open 1 >>= λ m. need (eqb m 0 || leb 2 n) 14 1
+    >> (field Open 8 >>= λ b. choose (eqb m 1) (groupsFrom (n - 1) (256 * v + b)) (give (256 * v + b))))
+unfolding groupsFrom
+groups-more zero v h = absurd (omega arith)
+groups-more (suc n) v h = let p : suc n - 1 ≡ n = omega arith in rw (p, two-leb n)
 
-  pub groups-done : (n v : ℕ) → n ≡ 0 → Comes s (groupsFrom n v) at k (value v at k)
-  unfolding groupsFrom
-  groups-done n v h = rw h gives
-
-  pub groups-stop : (n v : ℕ) {x : Refusal} → 0 < n → Comes s (field Open 1) at k (refusal x)
-      → Comes s (groupsFrom n v) at k (refusal x)
-  unfolding groupsFrom
-  groups-stop zero v h e = absurd (omega arith)
-  groups-stop (suc n) v h e = off _ e
-
-  module _ {m at′ k′ : ℕ} where
-    -- the continue bit m was read: it may not stand there, its byte is cut off, it is the last, or another group
-    -- follows
-    pub groups-over : (n v : ℕ) → 0 < n → Comes s (field Open 1) at k (value m at′ k′) → (eqb m 0 || leb 2 n) ≡ false
-        → Comes s (groupsFrom n v) at k (refusal (refusedAt 14 at k′))
-    unfolding groupsFrom
-    groups-over zero v h e t = absurd (omega arith)
-    groups-over (suc n) v h e t = on _ e (fails _ 1 (rw (two-leb n) at t) (took _ 1 e .moved))
-
-    pub groups-cut : (n v : ℕ) {x : Refusal} → 0 < n → Comes s (field Open 1) at k (value m at′ k′)
-        → (eqb m 0 || leb 2 n) ≡ true
-        → Comes s (field Open 8) at′ k′ (refusal x) → Comes s (groupsFrom n v) at k (refusal x)
-    unfolding groupsFrom
-    groups-cut zero v h e t f = absurd (omega arith)
-    groups-cut (suc n) v h e t f = on _ e (holds _ _ (rw (two-leb n) at t) (off _ f))
-
-    module _ {b at″ k″ : ℕ} where
-      pub groups-last : (n v : ℕ) → 0 < n → Comes s (field Open 1) at k (value m at′ k′) → (eqb m 0 || leb 2 n) ≡ true
-          → Comes s (field Open 8) at′ k′ (value b at″ k″) → (m ≡ 1 → ⊥)
-          → Comes s (groupsFrom n v) at k (value (256 * v + b) at″ k″)
-      unfolding groupsFrom
-      groups-last zero v h e t f u = absurd (omega arith)
-      groups-last (suc n) v h e t f u =
-          on _ e (holds _ _ (rw (two-leb n) at t) (on _ f (no-way _ (ne-eqb m 1 u) gives)))
-
-      pub groups-turn : (n v : ℕ) {o : Told ℕ} → 0 < n → Comes s (field Open 1) at k (value m at′ k′)
-          → (eqb m 0 || leb 2 n) ≡ true
-          → Comes s (field Open 8) at′ k′ (value b at″ k″) → m ≡ 1 → Comes s (groupsFrom n v) at k o
-          → Comes s (groupsFrom (n - 1) (256 * v + b)) at″ k″ o
-      unfolding groupsFrom
-      groups-turn zero v h e t f u q = absurd (omega arith)
-      groups-turn (suc n) v h e t f u q =
-          let p : suc n - 1 ≡ n = omega arith in
-          rw p (goes-on (groupsFrom n _) _ _
-          (on _ e (holds _ _ (rw (two-leb n) at t) (on _ f (yes-way _ (eq-eqb m 1 u) itself)))) q)
-
--- a byte more
-pub byte-more : (v b m : ℕ) → v < 2 ^ m → b < 2 ^ 8 → 256 * v + b < 2 ^ (m + 8)
-byte-more v b m h g = omega (arith, pow-add 2 m 8)
+pub groups-none : (n v : ℕ) → n ≡ 0 → groupsFrom n v ≡ give v
+unfolding groupsFrom
+groups-none n v h = rw h
 
 -- groups put one after the other
 pub groups-put : (k v : ℕ) → 0 < k

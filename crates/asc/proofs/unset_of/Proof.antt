@@ -1,36 +1,29 @@
 -- `asc::unset_of` meets its contract.
-use mathlib.Core.Path.{ap, _∙_}
+use mathlib.Core.Path.{refl}
+use Prim.Native.Nat.{ℕ}
 use borrow.Author.Needs.{needs}
 use borrow.Author.Tests.{eq-eqb, ne-eqb}
-use Rattle.kernel.specs.Answer.{refusal, toldFetched}
-use Rattle.kernel.proofs.Chain.{got, so, gives, holds, fails, on, off, took}
+use Rattle.kernel.specs.Answer.{toldFetched}
+use Rattle.kernel.proofs.Chain.{gives, fails, took}
+use Rattle.kernel.proofs.Along.{Asked, start, asks, next, came, gave, returned, needed, ends}
 use Rattle.asc.specs.Asc.{unset}
 use Rattle.asc.proofs.unset_of.Statement.{statement}
 use Rattle.asc.proofs.unset_of.Tie as tie
 
-returns : tie.Need-returns
-unfolding unset
-returns c =
-    let q = c .enum-told .given .1 in
-    ap toldFetched q ∙ so (off _ (got toldFetched _ _ _ _ (c .before .before .take-at .ensures) q))
-
-returns-2 : tie.Need-returns-2
-unfolding unset
-returns-2 c =
-    let f = c .before .before in
-    so (on _ (got toldFetched _ _ _ _ (f .before .before .take-at .ensures) (f .one .given .1))
-    (holds _ _ (eq-eqb _ 0 (c .if1 .taken)) gives))
-
-returns-3 : tie.Need-returns-3
-unfolding unset
-returns-3 d =
-    let c = d .before in
-    let f = c .before .before in
-    let s = got toldFetched _ _ _ _ (f .before .before .take-at .ensures) (f .one .given .1) in
-    ap refusal (d .refused-at .ensures) ∙ so (on _ s (fails _ 1 (ne-eqb _ 0 (c .if1 .left)) (took _ 1 s .moved)))
-
 pub unset-of-spec : {M : Type 1} → statement M
+unfolding unset
 unset-of-spec =
     tie.close
-    (tie.spec (λ c κs. search needs) (λ c. search needs) (λ c. search needs) returns returns-2
-    (λ c κs. search needs) returns-3)
+    (tie.spec (λ c κs. search needs) (λ c. search needs) (λ c. search needs)
+    (λ c. returned (flag (c .before .before)) (c .enum-told .given .1))
+    (λ c. let f = c .before .before in
+        ends (needed (gave (flag (f .before .before)) (f .one .given .1)) _ _ _ refl (eq-eqb _ 0 (c .if1 .taken))) gives)
+    (λ c κs. search needs)
+    (λ c. let f = c .before .before .before in
+        let a = flag (f .before .before) in
+        let g = f .one .given .1 in
+        ends (gave a g) (fails _ 1 (ne-eqb _ 0 (c .before .if1 .left)) (took _ 1 (came a g) .moved)
+        (c .refused-at .ensures))))
+  where
+    flag : tie.After-take-at → Asked toldFetched ℕ
+    flag c = asks (start _ (unset _) (c .before .before .pre)) next (c .take-at .result) (c .take-at .ensures)

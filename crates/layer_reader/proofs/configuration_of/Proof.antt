@@ -8,11 +8,11 @@ use Rattle.layer_reader.proofs.configuration_of.Tie as tie
 
 returns : tie.Need-returns
 unfolding configuration
-returns c = so (yes-way _ (eq-eqb _ 1 (c .before .if1 .taken)) (met _ _ _ _ (c .windowed-of .ensures)))
+returns c = so (yes-way _ (eq-eqb _ 1 (c .before .if1 .taken)) (met (c .windowed-of .ensures)))
 
 returns-2 : tie.Need-returns-2
 unfolding configuration
-returns-2 c = so (no-way _ (ne-eqb _ 1 (c .before .if1 .left)) (met _ _ _ _ (c .audio-specific-config .ensures)))
+returns-2 c = so (no-way _ (ne-eqb _ 1 (c .before .if1 .left)) (met (c .audio-specific-config .ensures)))
 
 pub configuration-of-spec : {M : Type 1} → statement M
 configuration-of-spec =

@@ -6,10 +6,10 @@ use Rattle.layer_reader.proofs.layer_config.Statement.{statement}
 use Rattle.layer_reader.proofs.layer_config.Tie as tie
 
 returns : tie.Need-returns
-returns c = so (yes-way _ (eq-eqb _ 0 (c .before .if1 .taken)) (met _ _ _ _ (c .configuration-of .ensures)))
+returns c = so (yes-way _ (eq-eqb _ 0 (c .before .if1 .taken)) (met (c .configuration-of .ensures)))
 
 returns-2 : tie.Need-returns-2
-returns-2 c = so (no-way _ (ne-eqb _ 0 (c .before .if1 .left)) (met _ _ _ _ (c .sent-or-same .ensures)))
+returns-2 c = so (no-way _ (ne-eqb _ 0 (c .before .if1 .left)) (met (c .sent-or-same .ensures)))
 
 pub layer-config-spec : {M : Type 1} → statement M
 layer-config-spec =

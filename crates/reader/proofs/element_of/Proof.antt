@@ -19,7 +19,7 @@ use Rattle.reader.proofs.element_of.Tie as tie
 -- the flag that was read
 flag : (f : tie.After-flag) → Comes (f .before .before .before .before .before .args .el .now) (field Open 1) 0 0
     (value (f .flag .given .0 .0) (f .flag .given .0 .1 .0 .at) (f .flag .given .0 .1 .0 .fields))
-flag f = got toldFetched _ _ _ _ (f .before .before .fetch .ensures) (f .flag .given .1)
+flag f = got toldFetched (f .before .before .fetch .ensures) (f .flag .given .1)
 
 returns : tie.Need-returns
 returns c held is =

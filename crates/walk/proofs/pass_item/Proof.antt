@@ -13,7 +13,7 @@ returns c =
     let f = c .before in
     λ x. (
       over-short x _ _ _ (done tt)
-          (got toldReached _ _ _ _ (f .before .before .skip .ensures) (f .x .given .1)),
+          (got toldReached (f .before .before .skip .ensures) (f .x .given .1)),
       tt,
     )
 
@@ -22,7 +22,7 @@ returns-2 c =
     let p = c .before .before in
     let f = p .before .before .before .before in
     λ x. (
-      over-is x _ _ _ tt (got toldReached _ _ _ _ (f .before .before .skip .ensures) (f .to .given .1))
+      over-is x _ _ _ tt (got toldReached (f .before .before .skip .ensures) (f .to .given .1))
           (p .push-if .ensures),
       omega arith,
     )

@@ -23,7 +23,7 @@ ran : (v : tie.After-reached) → let a = v .before .before .before .before .bef
     (v .reached .given .0 .0 .fields))
 ran v =
     let l = v .before .before in
-    got (toldWith (take (l .before .before .before .args .n) (l .lengths-of .result .widths))) _ _ _ _
+    got (toldWith (take (l .before .before .before .args .n) (l .lengths-of .result .widths)))
     (l .lengths-of .ensures .0) (v .reached .given .1)
 
 returns : tie.Need-returns
@@ -32,7 +32,7 @@ returns c =
     let f = c .before in
     let l = f .before .before in
     let a = l .before .before .before .args in (
-      stop-is _ _ _ (got (toldWith (take (a .n) (l .lengths-of .result .widths))) _ _ _ _ (l .lengths-of .ensures .0)
+      stop-is _ _ _ (got (toldWith (take (a .n) (l .lengths-of .result .widths))) (l .lengths-of .ensures .0)
           (f .reached2 .given .1)),
       tt,
     )

@@ -10,14 +10,14 @@ use Rattle.asc.proofs.object_types.escaped.Tie as tie
 returns : tie.Need-returns
 returns c =
     let q = c .enum-told .given .1 in
-    ap toldFetched q ∙ so (runs-out _ 6 (got toldFetched _ _ _ _ (c .before .before .take-at .ensures) q))
+    ap toldFetched q ∙ so (runs-out _ 6 (got toldFetched (c .before .before .take-at .ensures) q))
 
 returns-2 : tie.Need-returns-2
 returns-2 d =
     let c = d .before in
     let f = c .before in
     ap refusal (d .refused-at .ensures)
-    ∙ so (refuses-after _ 6 (got toldFetched _ _ _ _ (f .before .before .take-at .ensures) (f .six .given .1))
+    ∙ so (refuses-after _ 6 (got toldFetched (f .before .before .take-at .ensures) (f .six .given .1))
     (omega arith))
 
 pub escaped-spec : {M : Type 1} → statement M

@@ -1,54 +1,46 @@
 -- `asc::object_types::object_type` meets its contract.
-use mathlib.Core.Path.{ap, sym, _∙_}
+use mathlib.Core.Path.{refl, sym, _∙_}
+use Prim.Native.Nat.{ℕ}
 use native.Mathlib.Omega.{arith}
 use borrow.Author.Needs.{needs}
 use borrow.Author.Tests.{eq-eqb, ne-eqb}
-use Rattle.kernel.specs.Answer.{refusal, toldFetched}
-use Rattle.kernel.proofs.Chain.{met, got, so, gives, yes-way, no-way, holds, fails, on, off, steady, took}
+use Rattle.kernel.specs.Answer.{toldFetched}
+use Rattle.kernel.proofs.Chain.{gives, fails, took}
+use Rattle.kernel.proofs.Along.{Along, Asked, start, asks, next, came, gave, returned, when, unless, needed, last, ends}
 use Rattle.asc.specs.Asc.{objectType}
+use Rattle.asc.specs.Answer.{carriedIf}
 use Rattle.asc.proofs.object_types.object_type.Statement.{statement}
 use Rattle.asc.proofs.object_types.object_type.Tie as tie
 
-returns : tie.Need-returns
-unfolding objectType
-returns c =
-    let q = c .enum-told .given .1 in
-    ap toldFetched q ∙ so (off _ (got toldFetched _ _ _ _ (c .before .before .take-at .ensures) q))
-
-escaped-requires : tie.Need-escaped-requires
-escaped-requires c κs =
-    let f = c .before .before in
-    let s = got toldFetched _ _ _ _ (f .before .before .take-at .ensures) (f .five .given .1) in
-    (omega (arith, took _ 5 s .moved), steady s (omega arith))
-
-returns-2 : tie.Need-returns-2
-unfolding objectType
-returns-2 c =
-    let f = c .before .before .before in
-    so (on _ (got toldFetched _ _ _ _ (f .before .before .take-at .ensures) (f .five .given .1))
-    (yes-way _ (eq-eqb _ 31 (c .before .if1 .taken)) (met _ _ _ _ (c .escaped .ensures))))
-
-returns-3 : tie.Need-returns-3
-unfolding objectType
-returns-3 c =
-    let e = c .before .before in
-    let f = e .before .before in
-    so (on _ (got toldFetched _ _ _ _ (f .before .before .take-at .ensures) (f .five .given .1))
-    (no-way _ (ne-eqb _ 31 (e .if1 .left)) (holds _ _ (sym (c .before .carried .ensures) ∙ c .if2 .taken) gives)))
-
-returns-4 : tie.Need-returns-4
-unfolding objectType
-returns-4 d =
-    let c = d .before in
-    let e = c .before .before in
-    let f = e .before .before in
-    let s = got toldFetched _ _ _ _ (f .before .before .take-at .ensures) (f .five .given .1) in
-    ap refusal (d .refused-at .ensures)
-    ∙ so (on _ s (no-way _ (ne-eqb _ 31 (e .if1 .left)) (fails _ 5 (sym (c .before .carried .ensures)
-    ∙ c .if2 .left) (took _ 5 s .moved))))
-
 pub object-type-spec : {M : Type 1} → statement M
+unfolding objectType
 object-type-spec =
     tie.close
-    (tie.spec (λ c κs. search needs) (λ c. search needs) (λ c. search needs) returns escaped-requires returns-2
-    (λ c κs. search needs) returns-3 (λ c κs. search needs) returns-4)
+    (tie.spec (λ c κs. search needs) (λ c. search needs) (λ c. search needs)
+    (λ c. returned (five (c .before .before)) (c .enum-told .given .1))
+    (λ c κs. let f = c .before .before in
+        let a = five (f .before .before) in
+        let g = f .five .given .1 in
+        (omega (arith, took _ 5 (came a g) .moved), gave a g .stands))
+    (λ c. let i = c .before in
+        last (when (typed (i .before .before)) _ _ refl (eq-eqb _ 31 (i .if1 .taken))) (c .escaped .ensures))
+    (λ c κs. search needs)
+    (λ c. ends (needed (plain (c .before .before)) _ _ _ refl (sym (c .before .carried .ensures) ∙ c .if2 .taken)) gives)
+    (λ c κs. search needs)
+    (λ c. let i = c .before in
+        let f = i .before .before .before .before in
+        ends (plain (i .before .before)) (fails _ 5 (sym (i .before .carried .ensures) ∙ i .if2 .left)
+        (took _ 5 (came (five (f .before .before)) (f .five .given .1)) .moved) (c .refused-at .ensures))))
+  where
+    five : tie.After-take-at → Asked toldFetched ℕ
+    five c =
+        let s = c .before .before in
+        asks (start _ (objectType (carriedIf (s .args .under)) _) (s .pre)) next (c .take-at .result)
+        (c .take-at .ensures)
+
+    typed : tie.After-five → Along ℕ
+    typed c = gave (five (c .before .before)) (c .five .given .1)
+
+    -- no six more bits
+    plain : tie.Else1 → Along ℕ
+    plain c = unless (typed (c .before .before)) _ _ refl (ne-eqb _ 31 (c .if1 .left))

@@ -12,7 +12,7 @@ unfolding tail
 returns c =
     let l = c .before .before .left-of in
     let h : 16 ≤ l .result = c .before .if1 .taken in
-    so (placed _ (yes-way _ (rw (← l .ensures) (le-leb 16 (l .result) h)) (met _ _ _ _ (c .sync-extension .ensures))))
+    so (placed _ (yes-way _ (rw (← l .ensures) (le-leb 16 (l .result) h)) (met (c .sync-extension .ensures))))
 
 returns-2 : tie.Need-returns-2
 unfolding tail

@@ -1,57 +1,38 @@
 -- `asc::signalling::ps_extension` meets its contract.
+use mathlib.Core.Path.{refl}
 use native.Mathlib.Omega.{arith}
 use borrow.Author.Needs.{needs}
 use borrow.Author.Tests.{eq-eqb, ne-eqb}
 use Rattle.kernel.specs.Answer.{toldFetched}
-use Rattle.kernel.proofs.Chain.{got, handed, so, gives, yes-way, no-way, on, off, steady}
+use Rattle.kernel.proofs.Chain.{gives}
+use Rattle.kernel.proofs.Along.{Along, Asked, start, asks, next, gave, hands, when, unless, ends}
+use Rattle.records.specs.declared.Form.{Form}
 use Rattle.asc.specs.Asc.{psExtension}
 use Rattle.asc.proofs.signalling.ps_extension.Statement.{statement}
 use Rattle.asc.proofs.signalling.ps_extension.Tie as tie
 
-returns : tie.Need-returns
-unfolding psExtension
-returns c =
-    let x = c .before in
-    so (off _ (handed (x .before .before .take-at .ensures) (x .enum-told .given .1) (c .why .ensures)))
-
-take-at-requires-2 : tie.Need-take-at-requires-2
-take-at-requires-2 c κs =
-    let f = c .before .before in (
-      omega arith,
-      omega arith,
-      steady
-          (got toldFetched _ _ _ _ (f .before .before .take-at .ensures) (f .sync .given .1)) (omega arith),
-    )
-
-returns-2 : tie.Need-returns-2
-unfolding psExtension
-returns-2 c =
-    let d = c .before in
-    let i = d .before .before .before in
-    let f = i .before .before in
-    so (on _ (got toldFetched _ _ _ _ (f .before .before .take-at .ensures) (f .sync .given .1))
-    (yes-way _ (eq-eqb _ 1352 (i .if1 .taken))
-    (off _ (handed (d .before .before .take-at2 .ensures) (d .enum-told2 .given .1) (c .why2 .ensures)))))
-
-returns-3 : tie.Need-returns-3
-unfolding psExtension
-returns-3 c =
-    let g = c .before in
-    let i = g .before .before .before in
-    let f = i .before .before in
-    so (on _ (got toldFetched _ _ _ _ (f .before .before .take-at .ensures) (f .sync .given .1))
-    (yes-way _ (eq-eqb _ 1352 (i .if1 .taken))
-    (on _ (got toldFetched _ _ _ _ (g .before .before .take-at2 .ensures) (g .flag .given .1)) gives)))
-
-returns-4 : tie.Need-returns-4
-unfolding psExtension
-returns-4 c =
-    let f = c .before .before in
-    so (on _ (got toldFetched _ _ _ _ (f .before .before .take-at .ensures) (f .sync .given .1))
-    (no-way _ (ne-eqb _ 1352 (c .if1 .left)) gives))
-
 pub ps-extension-spec : {M : Type 1} → statement M
+unfolding psExtension
 ps-extension-spec =
     tie.close
-    (tie.spec (λ c κs. search needs) (λ c. search needs) (λ c. search needs) (λ c κs. search needs) returns
-    take-at-requires-2 (λ c. search needs) (λ c. search needs) (λ c κs. search needs) returns-2 returns-3 returns-4)
+    (tie.spec (λ c κs. search needs) (λ c. search needs) (λ c. search needs) (λ c κs. search needs)
+    (λ c. hands (sync (c .before .before .before)) (c .before .enum-told .given .1) (c .why .ensures))
+    (λ c κs. omega (arith, synced (c .before .before) .stands))
+    (λ c. search needs) (λ c. search needs) (λ c κs. search needs)
+    (λ c. hands (flag (c .before .before .before)) (c .before .enum-told2 .given .1) (c .why2 .ensures))
+    (λ c. ends (gave (flag (c .before .before .before)) (c .before .flag .given .1)) gives)
+    (λ c. ends (unless (synced (c .before .before)) _ _ refl (ne-eqb _ 1352 (c .if1 .left))) gives))
+  where
+    sync : tie.After-take-at → Asked toldFetched Form
+    sync c =
+        let s = c .before .before in
+        asks (start _ (psExtension (s .args .x) _) (s .pre)) next (c .take-at .result) (c .take-at .ensures)
+
+    synced : tie.After-sync → Along Form
+    synced c = gave (sync (c .before .before)) (c .sync .given .1)
+
+    flag : tie.After-take-at2 → Asked toldFetched Form
+    flag c =
+        let i = c .before in
+        asks (when (synced (i .before .before)) _ _ refl (eq-eqb _ 1352 (i .if1 .taken))) next (c .take-at2 .result)
+        (c .take-at2 .ensures)

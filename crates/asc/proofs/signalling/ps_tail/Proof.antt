@@ -12,7 +12,7 @@ unfolding psTail
 returns c =
     let l = c .before .before .left-of in
     let h : 12 ≤ l .result = c .before .if1 .taken in
-    so (placed _ (yes-way _ (rw (← l .ensures) (le-leb 12 (l .result) h)) (met _ _ _ _ (c .ps-extension .ensures))))
+    so (placed _ (yes-way _ (rw (← l .ensures) (le-leb 12 (l .result) h)) (met (c .ps-extension .ensures))))
 
 returns-2 : tie.Need-returns-2
 unfolding psTail

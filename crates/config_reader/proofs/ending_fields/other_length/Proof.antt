@@ -8,11 +8,11 @@ use Rattle.config_reader.proofs.ending_fields.other_length.Tie as tie
 
 returns : tie.Need-returns
 unfolding otherLength
-returns c = so (yes-way _ (eq-eqb _ 1 (c .before .if1 .taken)) (met _ _ _ _ (c .latm-get-value .ensures)))
+returns c = so (yes-way _ (eq-eqb _ 1 (c .before .if1 .taken)) (met (c .latm-get-value .ensures)))
 
 returns-2 : tie.Need-returns-2
 unfolding otherLength
-returns-2 c = so (no-way _ (ne-eqb _ 1 (c .before .if1 .left)) (met _ _ _ _ (c .groups-of .ensures)))
+returns-2 c = so (no-way _ (ne-eqb _ 1 (c .before .if1 .left)) (met (c .groups-of .ensures)))
 
 pub other-length-spec : {M : Type 1} → statement M
 other-length-spec =

@@ -6,7 +6,7 @@ use Rattle.config_reader.proofs.head_fields.subversion_if.Statement.{st
 use Rattle.config_reader.proofs.head_fields.subversion_if.Tie as tie
 
 returns : tie.Need-returns
-returns c = so (yes-way _ (eq-eqb _ 1 (c .before .if1 .taken)) (met _ _ _ _ (c .subversion-of .ensures)))
+returns c = so (yes-way _ (eq-eqb _ 1 (c .before .if1 .taken)) (met (c .subversion-of .ensures)))
 
 returns-2 : tie.Need-returns-2
 returns-2 c = so (no-way _ (ne-eqb _ 1 (c .if1 .left)) gives)

@@ -35,7 +35,7 @@ counted : (f : tie.After-counted Inv-loop μ-loop) → let l = f .before .before
     Comes (now (l .before .before .before .before .args .el)) (numLayer (l .loop .next)) (l .loop .cur .at)
     (l .loop .cur .fields)
     (toldFetched (Value (f .counted .given .0 .0) (f .counted .given .0 .1 .0)))
-counted f = got toldFetched _ _ _ _ (f .before .before .num-layer .ensures) (f .counted .given .1)
+counted f = got toldFetched (f .before .before .num-layer .ensures) (f .counted .given .1)
 
 loop-holds : tie.Need-loop-holds Inv-loop μ-loop
 loop-holds c = rw (c .before .no-stream .ensures) (going-start (omega arith))
@@ -74,14 +74,14 @@ returns-2 c =
     let l = x .before .before .before .before .before in
     refusing _ _ _ _ _ _ _ _ (c .refused-placed2 .ensures .0) (c .refused-placed2 .ensures .1)
     (layer-stop (l .loop .inv) (omega arith)
-    (got toldStreamed _ _ _ _ (x .before .before .layer-of .ensures) (x .x .given .1)))
+    (got toldStreamed (x .before .before .layer-of .ensures) (x .x .given .1)))
 
 loop-again-2 : tie.Need-loop-again-2 Inv-loop μ-loop
 loop-again-2 c =
     let r = c .before .before .before .before in
     let l = r .before .before .before .before .before in
     layer-turn (l .loop .inv) (omega arith)
-    (got toldStreamed _ _ _ _ (r .before .before .layer-of .ensures) (r .r .given .1))
+    (got toldStreamed (r .before .before .layer-of .ensures) (r .r .given .1))
 
 returns-3 : tie.Need-returns-3 Inv-loop μ-loop
 returns-3 c =

@@ -26,7 +26,7 @@ abbrev μ-loop : tie.MeasureT-loop
 ran : (f : tie.After-a Inv-loop μ-loop) → let l = f .before .before .before .before in
     Comes (now (l .before .before .args .el)) (field Open 8) (l .loop .cur .at) (l .loop .cur .fields)
     (toldFetched (Value (f .a .given .0 .0) (f .a .given .0 .1 .0)))
-ran f = got toldFetched _ _ _ _ (f .before .before .fetch .ensures) (f .a .given .1)
+ran f = got toldFetched (f .before .before .fetch .ensures) (f .a .given .1)
 
 loop-holds : tie.Need-loop-holds Inv-loop μ-loop
 unfolding muxSlotLengthBytes
@@ -40,7 +40,7 @@ returns c =
     let l = c .before .before .before .before in
     let q = c .enum-told .given .1 in
     ap toldFetched q ∙ same-end (slot-stop (l .loop .left) (l .loop .v) (omega arith)
-    (got toldFetched _ _ _ _ (c .before .before .fetch .ensures) q)) (l .loop .inv .2)
+    (got toldFetched (c .before .before .fetch .ensures) q)) (l .loop .inv .2)
 
 add-t11 : tie.Need-add-t11 Inv-loop μ-loop
 add-t11 c = omega (arith, took _ 8 (ran (c .before .before)) .narrow)

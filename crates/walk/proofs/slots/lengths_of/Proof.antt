@@ -55,7 +55,7 @@ returns c =
     let a = l .before .before .args in (
       same-end
           (lengths-stop (a .t2) (a .n) (take (l .loop .i) (l .loop .widths)) (l .loop .i) (omega arith) (omega arith)
-          (got toldFetched _ _ _ _ (s .slot-bits .ensures) (f .x .given .1)))
+          (got toldFetched (s .slot-bits .ensures) (f .x .given .1)))
           (l .loop .inv .comes),
       refl,
     )
@@ -75,7 +75,7 @@ loop-again c =
     let i = l .loop .i in
     let ws = l .loop .widths in
     let w = g .w .given .0 .0 in
-    let t = got toldFetched _ _ _ _ (s .slot-bits .ensures) (g .w .given .1) in
+    let t = got toldFetched (s .slot-bits .ensures) (g .w .given .1) in
     record {
       within = omega arith;
       size = length-set ws i w ∙ l .loop .inv .size;

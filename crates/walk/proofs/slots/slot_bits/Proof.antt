@@ -20,12 +20,12 @@ returns-2 c =
     let q = c .enum-told .given .1 in
     let s = c .before .before in
     let z : s .before .before .before .args .fixed ≡ 0 = omega arith in
-    ap toldFetched q ∙ so (yes-way _ (eq-eqb _ 0 z) (off _ (got toldFetched _ _ _ _ (s .length-bytes .ensures) q)))
+    ap toldFetched q ∙ so (yes-way _ (eq-eqb _ 0 z) (off _ (got toldFetched (s .length-bytes .ensures) q)))
 
 mul-t8 : tie.Need-mul-t8
 mul-t8 c =
     let f = c .before in
-    omega (arith, slot-few (got toldFetched _ _ _ _ (f .before .before .length-bytes .ensures) (f .a .given .1)))
+    omega (arith, slot-few (got toldFetched (f .before .before .length-bytes .ensures) (f .a .given .1)))
 
 returns-3 : tie.Need-returns-3
 unfolding slotBy
@@ -33,7 +33,7 @@ returns-3 c =
     let f = c .before in
     let s = f .before .before in
     let z : s .before .before .before .args .fixed ≡ 0 = omega arith in
-    so (yes-way _ (eq-eqb _ 0 z) (on _ (got toldFetched _ _ _ _ (s .length-bytes .ensures) (f .a .given .1)) gives))
+    so (yes-way _ (eq-eqb _ 0 z) (on _ (got toldFetched (s .length-bytes .ensures) (f .a .given .1)) gives))
 
 pub slot-bits-spec : {M : Type 1} → statement M
 slot-bits-spec =
