@@ -4,15 +4,15 @@ use mathlib.Core.Bool.{Bool, true, false}
 use mathlib.Core.List.{List}
 use Prim.Native.Nat.{ℕ}
 use Rattle.kernel.specs.declared.Refusal.{Refusal}
-use Rattle.kernel.specs.declared.Fetched.{Fetched}
 use Rattle.kernel.specs.declared.Fetched.the-variants.{Refused}
-use Rattle.kernel.specs.Reading.{Reading, here, choose, need, _>>=_, _>>_, run, Stands}
+use Rattle.kernel.specs.Reading.{Reading, give, here, choose, need, _>>=_, _>>_, run, Stands}
 use Rattle.kernel.specs.Answer.{Told, value, refusal, told, toldFetched, whyFetched}
 use Rattle.kernel.specs.Promises.{Tells}
+use Rattle.kernel.proofs.Run.{bind-give}
 use Rattle.kernel.proofs.Chain.{Comes, itself, yes-way, no-way, holds, placed, on, off, steady}
 
--- of the reading `all`, from bit `at` with n fields read, `rest` is left from bit `to` on, with `count` fields read: what
--- the rest comes to, the whole comes to. What a loop keeps that reads
+-- of the reading `all`, from bit `at` with n fields read, `rest` is left from bit `to` on, with `count` fields read:
+-- what the rest comes to, the whole comes to. It is what a loop that reads keeps
 pub record Remains {A : Type 0} (s : List ℕ) (all : Reading A) (at n : ℕ) (rest : Reading A) (to count : ℕ)
     : Type 0 where
   pub whole : told (run s rest to count) ≡ told (run s all at n)
@@ -40,6 +40,10 @@ pub record Leads {A B : Type 0} (r : Reading A) (p : Reading B) (f : B → Readi
 
 abbrev pub next : {A B : Type 0} {p : Reading B} {f : B → Reading A} → Leads (p >>= f) p f
 next = record { is = refl }
+
+-- p is all of it
+pub only : {A : Type 0} {p : Reading A} → Leads p p give
+only {p} = record { is = sym (bind-give p) }
 
 -- a refusal, which goes up as it is
 abbrev up : {A B : Type 0} → Told B → Told A → Told A

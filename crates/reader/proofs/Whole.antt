@@ -1,6 +1,6 @@
 -- From the walk behind the configuration to the answer of the whole element.
 use mathlib.Core.Path.{_≡_, refl, ap, sym, _∙_}
-use mathlib.Core.Bool.{Bool, true, false, cond}
+use mathlib.Core.Bool.{Bool, true, false, cond, _||_}
 use mathlib.Core.List.{List, [], _++_, append-nil}
 use Prim.Native.Nat.{ℕ, _*_, _-_, _≤_, _<_}
 use native.Mathlib.Omega.{arith}
@@ -9,13 +9,12 @@ use lib.ListN.{length, drop}
 use borrow.Author.Tests.{lt-ltb, le-ltb, eq-eqb, ne-eqb}
 use Rattle.kernel.specs.declared.Refusal.{Refusal}
 use Rattle.kernel.specs.declared.Window.the-variants.{Open}
-use Rattle.kernel.specs.Reading.{Stop, Outcome, gave, refused, stop, refusedAt, run, field, Stands}
+use Rattle.kernel.specs.Reading.{Reading, Stop, Outcome, gave, refused, stop, refusedAt, run, field}
 use Rattle.kernel.specs.Answer.{told, value, refusal, unread}
 use Rattle.kernel.specs.Element.{Item, Passage, came, fell, done, fields, item, withItem, next, walk, read, Answer}
 use Rattle.kernel.specs.Element.{accepted, rejected, ended}
-use Rattle.kernel.proofs.Chain.{Comes, apart, gave-told, on, off, holds, fails, gives, steady}
-use Rattle.kernel.proofs.Run.{run-forward}
-use Rattle.kernel.proofs.Kept.{Numbered, run-kept}
+use Rattle.kernel.proofs.Chain.{Comes, apart, gave-told, on, off, holds, fails, gives, took}
+use Rattle.kernel.proofs.Kept.{run-kept}
 use Rattle.kernel.proofs.Induction.{by-part}
 use Rattle.kernel.proofs.Walk.{under, onward, walk-follow, walk-gave}
 use Rattle.records.specs.declared.Record.{Record}
@@ -38,7 +37,7 @@ use Rattle.reader.specs.Parts.{planOf, behindOf, sentOf}
 use Rattle.reader.specs.Prepared.{preparedOf, unsent}
 use Rattle.reader.specs.Promises.{Leaves}
 use Rattle.reader.proofs.Plans.{plan-is}
-use Rattle.reader.proofs.Preparing.{prepared-usable, held-valid, held-plan}
+use Rattle.reader.proofs.Preparing.{same-flag, prepared-usable, held-valid, held-plan}
 
 -- a passage with the configuration that applied for its answer
 abbrev with : Applied → Passage Unit → Passage Applied
@@ -122,142 +121,159 @@ module _ (s : List ℕ) (r : Record) (at n : ℕ) where
       (at-the-end P (record { sent = sent; config = r }) f g (8 * length s)
       (fronted sent at (walk s (body r) at n)))
 
--- the answer y is refusal x, so that all that was held or lent is as it was
+-- where the answer y is refusal x, all that was held or lent is as it was
 abbrev Unchanged : Refusal → Prepared → List ℕ → List (List ℕ) → Answer Applied → Type 0
 Unchanged x p map table y = Leaves p y map table (unsent (Refused x) p) map table
 
+-- as where r is the reply
+unchanged : {x : Refusal} {p : Prepared} {map : List ℕ} {table : List (List ℕ)} (y : Answer Applied) {r : PreparedReply}
+    → Unchanged x p map table y → r ≡ unsent (Refused x) p → Leaves p y map table r map table
+unchanged y h e = (e ∙ h .0, h .1, h .2)
+
+-- accepted, a configuration that was sent is held with its table; refused, all is as it stood
+module _ (p : Prepared) (map : List ℕ) (table : List (List ℕ)) where
+  abbrev Left : Record → Plan → List ℕ → Answer Applied → Verdict → Type 0
+  Left r plan map′ y (Accepted k m sent) =
+      Leaves p y map table
+      (record { verdict = Accepted k m sent; sent = r; prepared = record { usable = true; plan = plan } })
+      map′ (tableOf (r .layers) (r .programs))
+  Left r plan map′ y (Refused x) = Leaves p y map table (unsent (Refused x) p) map′ table
+
 -- a configuration stands behind the flag
-module _ (s : List ℕ) (at n : ℕ) where
-  pub sent-done : (r : Record) (at′ n′ : ℕ) → at ≡ 1 → told (run s streamMuxConfig at n) ≡ value r at′ n′
+module _ {s : List ℕ} {at n : ℕ} where
+  sent-done : {r : Record} {at′ n′ : ℕ} → at ≡ 1 → Comes s streamMuxConfig at n (value r at′ n′)
       → sentOf s at n ≡ behindOf s r true at′ n′
   unfolding sentOf behindOf
-  sent-done r at′ n′ h e =
+  sent-done {r} {at′} {n′} h e =
       ap (λ (z : Passage Applied). ended (8 * length s) (withItem (item fields kindU 0 0 1) z))
       (walk-gave s at n kindC streamMuxConfig (λ r. applied (record { sent = true; config = r })) r at′ n′
-      (gave-told (run s streamMuxConfig at n) e)
+      (gave-told (run s streamMuxConfig at n) (e .is))
       ∙ ap (λ (p : ℕ). withItem (item fields kindC 0 p (at′ - p))
       (walk s (applied (record { sent = true; config = r })) at′ n′)) h)
 
-  pub sent-forward : {r : Record} {at′ n′ : ℕ} → told (run s streamMuxConfig at n) ≡ value r at′ n′ → at ≤ at′
-  sent-forward e = rw (gave-told (run s streamMuxConfig at n) e) at (run-forward s streamMuxConfig at n)
-
-  pub sent-valid : {r : Record} {at′ n′ : ℕ} → told (run s streamMuxConfig at n) ≡ value r at′ n′ → validOf r ≡ true
+  pub sent-valid : {r : Record} {at′ n′ : ℕ} → Comes s streamMuxConfig at n (value r at′ n′) → validOf r ≡ true
   sent-valid e =
-      (rw (gave-told (run s streamMuxConfig at n) e) at (run-kept Numbered ReadOk refl refl s at n mux)) .valid
+      (rw (gave-told (run s streamMuxConfig at n) (e .is)) at (run-kept Numbered ReadOk refl refl s at n mux)) .valid
 
-  pub sent-steady : {r : Record} {at′ n′ : ℕ} → told (run s streamMuxConfig at n) ≡ value r at′ n′ → Stands s at n
-      → Stands s at′ n′
-  sent-steady e h = steady {m = streamMuxConfig} (record { is = e }) h
-
-  pub sent-refused : (p : Prepared) (map : List ℕ) (table : List (List ℕ)) (x : Refusal)
-      → told (run s streamMuxConfig at n) ≡ refusal x
-      → Unchanged x p map table (sentOf s at n)
-  unfolding sentOf walk next withItem
-  sent-refused p map table x = go (run s streamMuxConfig at n)
-    where
-      all : Outcome Record → Answer Applied
-      all o =
-          ended (8 * length s) (withItem (item fields kindU 0 0 1)
-          (next kindC at o (λ r at′ n′. walk s (applied (record { sent = true; config = r })) at′ n′)))
-
-      go : (o : Outcome Record) → told o ≡ refusal x → Unchanged x p map table (all o)
-      go (gave r at′ n′) e = absurd (apart (sym e))
-      go (refused r) e =
-          let q : x ≡ r .refusal = cc in
-          (ap (λ (z : Refusal). unsent (Refused z) p) q, refl, refl)
-
-  -- accepted, the configuration is held with its table; refused, all is as it stood
   module _ (p : Prepared) (map : List ℕ) (table : List (List ℕ)) where
-    abbrev pub Left : Record → Plan → List ℕ → Answer Applied → Verdict → Type 0
-    Left r plan map′ y (Accepted k m sent) =
-        Leaves p y map table
-        (record { verdict = Accepted k m sent; sent = r; prepared = record { usable = true; plan = plan } })
-        map′ (tableOf (r .layers) (r .programs))
-    Left r plan map′ y (Refused x) = Leaves p y map table (unsent (Refused x) p) map′ table
+    pub sent-refused : {x : Refusal} {r : PreparedReply} → Comes s streamMuxConfig at n (refusal x)
+        → r ≡ unsent (Refused x) p → Leaves p (sentOf s at n) map table r map table
+    unfolding sentOf walk next withItem
+    sent-refused {x} c = unchanged (sentOf s at n) (go (run s streamMuxConfig at n) (c .is))
+      where
+        all : Outcome Record → Answer Applied
+        all o =
+            ended (8 * length s) (withItem (item fields kindU 0 0 1)
+            (next kindC at o (λ r at′ n′. walk s (applied (record { sent = true; config = r })) at′ n′)))
 
-    pub sent-leaves : (r : Record) (at′ n′ : ℕ) → at ≡ 1 → told (run s streamMuxConfig at n) ≡ value r at′ n′
-        → (plan : Plan) → plan ≡ planOf r → {v : Verdict} {map′ : List ℕ} → FinishPromise true s plan at′ n′ map v map′
-        → Left r plan map′ (sentOf s at n) v
-    sent-leaves r at′ n′ h e plan q f =
-        let ok = sent-valid e in
-        let b = behind-is s r at′ n′ true ok plan q map f in
-        rw (sent-done r at′ n′ h e, b .0, b .1, q)
-        (behind-ends s r at′ n′ (λ y. Left r (planOf r) (mapAfter map y) y (verdictOf y)) true
-        (λ its k. (
-          ap (λ (z : Prepared). record { verdict = Accepted (length its) k true; sent = r; prepared = z })
-              (sym (prepared-usable (record { present = true; config = r }) ok)),
-          refl,
-          refl,
-        ))
-        (λ z its. (refl, refl, refl)))
+        go : (o : Outcome Record) → told o ≡ refusal x → Unchanged x p map table (all o)
+        go (gave r at′ n′) e = absurd (apart (sym e))
+        go (refused r) e =
+            let q : x ≡ r .refusal = cc in
+            (ap (λ (z : Refusal). unsent (Refused z) p) q, refl, refl)
+
+    -- by what `finish` promises of the walk behind it
+    module _ {r : Record} {at′ n′ : ℕ} (h : at ≡ 1) (e : Comes s streamMuxConfig at n (value r at′ n′)) {plan : Plan}
+        (q : plan ≡ planOf r) {v : Verdict} {map′ : List ℕ} (f : FinishPromise true s plan at′ n′ map v map′) where
+      leaves : Left p map table r plan map′ (sentOf s at n) v
+      leaves =
+          let ok = sent-valid e in
+          let b = behind-is s r at′ n′ true ok plan q map f in
+          rw (sent-done h e, b .0, b .1, q)
+          (behind-ends s r at′ n′ (λ y. Left p map table r (planOf r) (mapAfter map y) y (verdictOf y)) true
+          (λ its k. (
+            ap (λ (z : Prepared). record { verdict = Accepted (length its) k true; sent = r; prepared = z })
+                (sym (prepared-usable (record { present = true; config = r }) ok)),
+            refl,
+            refl,
+          ))
+          (λ z its. (refl, refl, refl)))
+
+      pub sent-accepted : {k m : ℕ} {sent : Bool} → v ≡ Accepted k m sent
+          → {table′ : List (List ℕ)} → table′ ≡ tableOf (r .layers) (r .programs)
+          → Leaves p (sentOf s at n) map table
+          (record { verdict = v; sent = r; prepared = record { usable = true; plan = plan } }) map′ table′
+      sent-accepted a t =
+          let l = rw a at leaves in
+          let c : Prepared = record { usable = true; plan = plan } in
+          (ap (λ (v : Verdict). record { verdict = v; sent = r; prepared = c }) a ∙ l .0, l .1, t ∙ l .2)
+
+      pub sent-rejected : {x : Refusal} → v ≡ Refused x → {reply : PreparedReply} → reply ≡ unsent v p
+          → Leaves p (sentOf s at n) map table reply map′ table
+      sent-rejected a u =
+          let l = rw a at leaves in (u ∙ ap (λ (v : Verdict). unsent v p) a ∙ l .0, l .1, l .2)
 
 -- by the flag
-module _ (s : List ℕ) (held : Held) where
-  pub flag-refused : (p : Prepared) (map : List ℕ) (table : List (List ℕ)) (x : Refusal)
-      → told (run s (useSameStreamMux (usable held)) 0 0) ≡ refusal x
-      → Unchanged x p map table (read s (audioMuxElement held))
+abbrev flag : Held → Reading ℕ
+flag held = useSameStreamMux (usable held)
+
+module _ {s : List ℕ} (held : Held) where
+  flag-refused : (p : Prepared) (map : List ℕ) (table : List (List ℕ)) {x : Refusal} {r : PreparedReply}
+      → Comes s (flag held) 0 0 (refusal x) → r ≡ unsent (Refused x) p
+      → Leaves p (read s (audioMuxElement held)) map table r map table
   unfolding audioMuxElement
-  flag-refused p map table x e =
-      by-part s 0 0 (λ y. Unchanged x p map table (ended (8 * length s) y)) kindU (useSameStreamMux (usable held))
-      (λ u. afterFlag (eqb u 1) (held .config)) (λ u at n q. absurd (apart (sym (rw q at e))))
+  flag-refused p map table {x} e =
+      unchanged (read s (audioMuxElement held))
+      (by-part s 0 0 (λ y. Unchanged x p map table (ended (8 * length s) y)) kindU (flag held)
+      (λ u. afterFlag (eqb u 1) (held .config)) (λ u at n q. absurd (apart (sym (rw q at (e .is)))))
       (λ r q.
-      let y = rw q at e in
+      let y = rw q at (e .is) in
       let z : x ≡ r .refusal = cc in
-      (ap (λ (z : Refusal). unsent (Refused z) p) z, refl, refl))
+      (ap (λ (z : Refusal). unsent (Refused z) p) z, refl, refl)))
 
-  pub flag-sent : (at n : ℕ) → at ≡ 1 → told (run s (useSameStreamMux (usable held)) 0 0) ≡ value 0 at n
-      → read s (audioMuxElement held) ≡ sentOf s at n
-  unfolding audioMuxElement sentOf afterFlag
-  flag-sent at n h e =
-      ap (ended (8 * length s))
-      (walk-gave s 0 0 kindU (useSameStreamMux (usable held)) (λ u. afterFlag (eqb u 1) (held .config)) 0 at n
-      (gave-told (run s (useSameStreamMux (usable held)) 0 0) e)
-      ∙ ap (λ (p : ℕ). withItem (item fields kindU 0 0 p) (walk s sentElement at n)) (let q : at - 0
-      ≡ 1 = omega arith in q))
-
-  pub flag-held : (at n : ℕ) → at ≡ 1 → told (run s (useSameStreamMux (usable held)) 0 0) ≡ value 1 at n
-      → read s (audioMuxElement held) ≡ behindOf s (held .config) false at n
-  unfolding audioMuxElement behindOf afterFlag
-  flag-held at n h e =
-      ap (ended (8 * length s))
-      (walk-gave s 0 0 kindU (useSameStreamMux (usable held)) (λ u. afterFlag (eqb u 1) (held .config)) 1 at n
-      (gave-told (run s (useSameStreamMux (usable held)) 0 0) e)
-      ∙ ap (λ (p : ℕ). withItem (item fields kindU 0 0 p)
-      (walk s (applied (record { sent = false; config = held .config })) at n)) (let q : at - 0 ≡ 1 = omega arith in q))
-
-  -- the held configuration applies
-  pub held-leaves : (p : Prepared) → p ≡ preparedOf held → p .usable ≡ true → (map : List ℕ) (table : List (List ℕ))
-      (at n : ℕ) → at ≡ 1 → told (run s (useSameStreamMux (usable held)) 0 0) ≡ value 1 at n
-      → {v : Verdict} {map′ : List ℕ} → FinishPromise false s (p .plan) at n map v map′
-      → Leaves p (read s (audioMuxElement held)) map table (unsent v p) map′ table
-  held-leaves p is u map table at n h e f =
-      let b = behind-is s (held .config) at n false (held-valid held is u) (p .plan) (held-plan held is u) map f in
-      rw (flag-held at n h e, b .0, b .1)
-      (behind-ends s (held .config) at n
-      (λ y. Leaves p y map table (unsent (verdictOf y) p) (mapAfter map y) table) false
-      (λ its k. (refl, refl, refl)) (λ z its. (refl, refl, refl)))
-
--- what useSameStreamMux comes to
-module _ {s : List ℕ} where
-  pub flag-short : (h : Bool) {x : Refusal} → Comes s (field Open 1) 0 0 (refusal x)
-      → told (run s (useSameStreamMux h) 0 0) ≡ refusal x
+  pub flag-short : (p : Prepared) (map : List ℕ) (table : List (List ℕ)) {x : Refusal} {r : PreparedReply}
+      → Comes s (field Open 1) 0 0 (refusal x) → r ≡ unsent (Refused x) p
+      → Leaves p (read s (audioMuxElement held)) map table r map table
   unfolding useSameStreamMux
-  flag-short h e = off _ e .is
+  flag-short p map table e = flag-refused p map table (off _ e)
 
-  pub flag-0 : (h : Bool) {at n : ℕ} → Comes s (field Open 1) 0 0 (value 0 at n)
-      → told (run s (useSameStreamMux h) 0 0) ≡ value 0 at n
-  unfolding useSameStreamMux
-  flag-0 h e = on _ e (holds 4 1 refl gives) .is
+  module _ {u at n : ℕ} (e : Comes s (field Open 1) 0 0 (value u at n)) where
+    at-1 : at - 0 ≡ 1
+    at-1 = omega (arith, took Open 1 e .moved)
 
-  pub flag-1 : (h : Bool) {at n : ℕ} → h ≡ true → Comes s (field Open 1) 0 0 (value 1 at n)
-      → told (run s (useSameStreamMux h) 0 0) ≡ value 1 at n
-  unfolding useSameStreamMux
-  flag-1 h q e = on _ e (holds 4 1 q gives) .is
+    may : (eqb u 0 || usable held) ≡ true → Comes s (flag held) 0 0 (value u at n)
+    unfolding useSameStreamMux
+    may t = on _ e (holds 4 1 t gives)
 
-  pub flag-unheld : (h : Bool) {at n : ℕ} → h ≡ false → at ≡ 1 → Comes s (field Open 1) 0 0 (value 1 at n)
-      → told (run s (useSameStreamMux h) 0 0) ≡ refusal (refusedAt 4 0 n)
-  unfolding useSameStreamMux
-  flag-unheld h q l e = on _ e (fails _ {p = 0} 1 q l) .is
+    pub flag-sent : u ≡ 0 → read s (audioMuxElement held) ≡ sentOf s at n
+    unfolding audioMuxElement sentOf afterFlag
+    flag-sent z =
+        ap (ended (8 * length s))
+        (walk-gave s 0 0 kindU (flag held) (λ u. afterFlag (eqb u 1) (held .config)) 0 at n
+        (gave-told (run s (flag held) 0 0) (rw z at (may (rw z refl) .is)))
+        ∙ ap (λ (p : ℕ). withItem (item fields kindU 0 0 p) (walk s sentElement at n)) at-1)
+
+    module _ (not-0 : u ≡ 0 → ⊥) {p : Prepared} (is : p ≡ preparedOf held) (map : List ℕ) (table : List (List ℕ)) where
+      pub flag-unheld : p .usable ≡ false → {x : Refusal} → x ≡ refusedAt 4 0 n → {r : PreparedReply}
+          → r ≡ unsent (Refused x) p → Leaves p (read s (audioMuxElement held)) map table r map table
+      unfolding useSameStreamMux
+      flag-unheld none w =
+          let t : (eqb u 0 || usable held) ≡ false = rw (ne-eqb u 0 not-0) (sym (same-flag held is) ∙ none) in
+          flag-refused p map table (on _ e (fails _ 1 t (took Open 1 e .moved) w))
+
+      flag-held : p .usable ≡ true → read s (audioMuxElement held) ≡ behindOf s (held .config) false at n
+      unfolding audioMuxElement behindOf afterFlag
+      flag-held ok =
+          let z : u ≡ 1 = omega (arith, took Open 1 e .narrow) in
+          let t : (eqb u 0 || usable held) ≡ true = rw (ne-eqb u 0 not-0) (sym (same-flag held is) ∙ ok) in
+          ap (ended (8 * length s))
+          (walk-gave s 0 0 kindU (flag held) (λ u. afterFlag (eqb u 1) (held .config)) 1 at n
+          (gave-told (run s (flag held) 0 0) (rw z at (may t .is)))
+          ∙ ap (λ (p : ℕ). withItem (item fields kindU 0 0 p)
+          (walk s (applied (record { sent = false; config = held .config })) at n)) at-1)
+
+      -- the held configuration applies
+      pub held-leaves : p .usable ≡ true → {v : Verdict} {map′ : List ℕ}
+          → FinishPromise false s (p .plan) at n map v map′ → {r : PreparedReply} → r ≡ unsent v p
+          → Leaves p (read s (audioMuxElement held)) map table r map′ table
+      held-leaves ok {v} {map′} f w =
+          let b = behind-is s (held .config) at n false (held-valid held is ok) (p .plan) (held-plan held is ok) map f in
+          let l : Leaves p (read s (audioMuxElement held)) map table (unsent v p) map′ table =
+          rw (flag-held ok, b .0, b .1)
+          (behind-ends s (held .config) at n
+          (λ y. Leaves p y map table (unsent (verdictOf y) p) (mapAfter map y) table) false
+          (λ its k. (refl, refl, refl)) (λ z its. (refl, refl, refl))) in
+          (w ∙ l .0, l .1, l .2)
 
 -- before any field a refusal leaves all as it was
 pub early : (m : ℕ) {p : Prepared} {map : List ℕ} {table : List (List ℕ)} {x : Refusal} {r : PreparedReply}

@@ -17,8 +17,7 @@ alone-of-spec =
     (λ c κs. gave (flags (c .before .before .before)) (c .before .r .given .1) .stands)
     (λ c. search needs) (λ c. search needs)
     (λ c. stops (form (c .before .before .before)) (c .before .x2 .given .1)) (λ c κs. search needs)
-    (λ c. let r = c .before .before .before .before in
-        rw (c .before .config-of .ensures) (ends (gave (form (r .before .before)) (r .r2 .given .1)) gives)))
+    returns-3)
   where
     flags : tie.After-flags-of → Asked toldFlagged Config
     flags c =
@@ -30,3 +29,8 @@ alone-of-spec =
     form c =
         let r = c .before .before in
         asks (gave (flags (r .before .before)) (r .r .given .1)) next (c .asc-tail .result) (c .asc-tail .ensures)
+
+    returns-3 : tie.Need-returns-3
+    returns-3 c =
+        let r = c .before .before .before .before in
+        rw (c .before .config-of .ensures) (ends (gave (form (r .before .before)) (r .r2 .given .1)) gives)

@@ -21,13 +21,8 @@ audio-specific-config-spec =
     (λ c κs. gave (rate (c .before .before .before)) (c .before .r .given .1) .stands)
     (λ c. search needs) (λ c. search needs) (λ c κs. search needs)
     (λ c. hands (channels (c .before .before .before)) (c .before .enum-told2 .given .1) (c .why2 .ensures))
-    (λ c κs. search needs)
-    (λ c κs. tested (c .before) .stands)
-    (λ c. let i = c .before .before in
-        last (when (tested i) _ _ refl (sym (i .is-core .ensures) ∙ c .before .if1 .taken)) (c .alone-of .ensures))
-    (λ c κs. tested (c .before) .stands)
-    (λ c. let i = c .before .before in
-        last (unless (tested i) _ _ refl (sym (i .is-core .ensures) ∙ c .before .if1 .left)) (c .under-front .ensures)))
+    (λ c κs. search needs) (λ c κs. core c .stands) (λ c. last (core (c .before)) (c .alone-of .ensures))
+    (λ c κs. front c .stands) (λ c. last (front (c .before)) (c .under-front .ensures)))
   where
     type : tie.After-object-type → Asked toldFetched Config
     type c =
@@ -46,5 +41,15 @@ audio-specific-config-spec =
         asks (gave (rate (r .before .before)) (r .r .given .1)) next (c .channel-configuration .result)
         (c .channel-configuration .ensures)
 
-    tested : tie.After-is-core → Along Config
-    tested c = let f = c .before .before in gave (channels (f .before .before)) (f .four .given .1)
+    channelled : tie.After-four → Along Config
+    channelled c = gave (channels (c .before .before)) (c .four .given .1)
+
+    core : tie.Then1 → Along Config
+    core c =
+        let i = c .before in
+        when (channelled (i .before .before)) _ _ refl (sym (i .is-core .ensures) ∙ c .if1 .taken)
+
+    front : tie.Else1 → Along Config
+    front c =
+        let i = c .before in
+        unless (channelled (i .before .before)) _ _ refl (sym (i .is-core .ensures) ∙ c .if1 .left)

@@ -27,16 +27,24 @@ channel-configuration-spec =
     tie.close
     (tie.spec (λ c κs. search needs) (λ c. search needs) (λ c. search needs)
     (λ c. returned (four (c .before .before)) (c .enum-told .given .1)) (λ c κs. search needs)
-    (λ c. let f = c .before .before .before in
-        ends (needed (gave (four (f .before .before)) (f .four .given .1)) _ _ _ refl
-        (within (f .four .given .0 .0) (omega arith) (omega arith))) gives)
-    (λ c. let f = c .before .before .before in
-        let a = four (f .before .before) in
-        let g = f .four .given .1 in
-        let not = outside (f .four .given .0 .0) (elim (c .before .if1 .came)
-        [ inl x ↦ inl (omega (arith, x .taken)) | inr x ↦ inr (omega (arith, x .1 .left)) ]) in
-        ends (gave a g) (fails _ 4 not (took _ 4 (came a g) .moved) (c .refused-at .ensures))))
+    returns-2
+    returns-3)
   where
     four : tie.After-take-at → Asked toldFetched ℕ
     four c =
         asks (start _ (channelConfiguration _) (c .before .before .pre)) next (c .take-at .result) (c .take-at .ensures)
+
+    returns-2 : tie.Need-returns-2
+    returns-2 c =
+        let f = c .before .before .before in
+        ends (needed (gave (four (f .before .before)) (f .four .given .1)) _ _ _ refl
+        (within (f .four .given .0 .0) (omega arith) (omega arith))) gives
+
+    returns-3 : tie.Need-returns-3
+    returns-3 c =
+        let f = c .before .before .before in
+        let a = four (f .before .before) in
+        let g = f .four .given .1 in
+        let not = outside (f .four .given .0 .0) (elim (c .before .if1 .came)
+        [ inl x ↦ inl (omega (arith, x .taken)) | inr x ↦ inr (omega (arith, x .1 .left)) ]) in
+        ends (gave a g) (fails _ 4 not (took _ 4 (came a g) .moved) (c .refused-at .ensures))

@@ -23,7 +23,9 @@ flags-of-spec =
     (λ c. ends (gave (extension (c .before .before .before)) (c .before .d .given .1)) gives))
   where
     flag : tie.After-take-at → Asked toldFetched Flags
-    flag c = asks (start _ (gaSpecificConfig _) (c .before .before .pre)) next (c .take-at .result) (c .take-at .ensures)
+    flag c =
+        let s = c .before .before in
+        asks (start _ (gaSpecificConfig _) (s .pre)) next (c .take-at .result) (c .take-at .ensures)
 
     depends : tie.After-unset-of → Asked toldFetched Flags
     depends c =

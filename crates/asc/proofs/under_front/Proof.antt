@@ -22,9 +22,7 @@ under-front-spec =
     (λ c. search needs) (λ c. search needs)
     (λ c. stops (flags (c .before .before .before)) (c .before .x2 .given .1))
     (λ c κs. search needs) (λ c κs. search needs)
-    (λ c. let r = c .before .before .before .before .before in
-        rw (c .before .config-of .ensures, c .before .before .in-front .ensures)
-        (ends (gave (flags (r .before .before)) (r .r2 .given .1)) gives)))
+    returns-4)
   where
     rate : tie.After-frequency-of → Asked toldRated Config
     rate c =
@@ -42,3 +40,9 @@ under-front-spec =
     flags c =
         let n = c .before .before in
         asks (gave (core (n .before .before)) (n .number .given .1)) next (c .flags-of .result) (c .flags-of .ensures)
+
+    returns-4 : tie.Need-returns-4
+    returns-4 c =
+        let r = c .before .before .before .before .before in
+        rw (c .before .config-of .ensures, c .before .before .in-front .ensures)
+        (ends (gave (flags (r .before .before)) (r .r2 .given .1)) gives)

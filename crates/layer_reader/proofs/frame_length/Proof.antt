@@ -26,10 +26,7 @@ frame-length-spec =
     (λ c κs. search needs)
     (λ c. ends (gave (fullness (c .before .before .before)) (c .before .eight .given .1)) gives)
     (λ c. ends (gave (fixed (c .before .before .before)) (c .before .nine .given .1)) gives)
-    (λ c. let t = c .before .before .before in
-        let other : t .three .given .0 .0 ≡ 1 → ⊥ = λ e. omega arith in
-        ends (unless (not-0 t (λ e. omega arith)) _ _ refl (ne-eqb _ 1 other))
-        (refuses (took _ 3 (came (type (t .before .before)) (t .three .given .1)) .moved) (c .refused-at .ensures))))
+    returns-6)
   where
     type : tie.After-fetch → Asked toldFetched Stream
     type c =
@@ -53,3 +50,10 @@ frame-length-spec =
         let t = c .before .before .before in
         asks (when (not-0 t (λ e. omega arith)) _ _ refl (eq-eqb (t .three .given .0 .0) 1 (omega arith))) next
         (c .fetch3 .result) (c .fetch3 .ensures)
+
+    returns-6 : tie.Need-returns-6
+    returns-6 c =
+        let t = c .before .before .before in
+        let other : t .three .given .0 .0 ≡ 1 → ⊥ = λ e. omega arith in
+        ends (unless (not-0 t (λ e. omega arith)) _ _ refl (ne-eqb _ 1 other))
+        (refuses (took _ 3 (came (type (t .before .before)) (t .three .given .1)) .moved) (c .refused-at .ensures))

@@ -1,6 +1,6 @@
 -- `layer_reader::layer_of` meets its contract.
 use borrow.Author.Needs.{needs}
-use Rattle.kernel.proofs.Along.{Asked, start, asks, next, gave, stops, last}
+use Rattle.kernel.proofs.Along.{Along, Asked, start, asks, next, gave, stops, last}
 use Rattle.records.specs.declared.Stream.{Stream}
 use Rattle.asc.specs.Answer.{toldConfigured}
 use Rattle.config.specs.Mux.{layer}
@@ -13,9 +13,8 @@ layer-of-spec =
     tie.close
     (tie.spec (λ c κs. search needs) (λ c. search needs) (λ c. search needs)
     (λ c. stops (config (c .before .before .before)) (c .before .x .given .1))
-    (λ c κs. let r = c .before .before in gave (config (r .before .before)) (r .r .given .1) .stands)
-    (λ c. let r = c .before .before .before in
-        last (gave (config (r .before .before)) (r .r .given .1)) (c .frame-length .ensures)))
+    (λ c κs. configured (c .before .before) .stands)
+    (λ c. last (configured (c .before .before .before)) (c .frame-length .ensures)))
   where
     config : tie.After-layer-config → Asked toldConfigured Stream
     config c =
@@ -23,3 +22,6 @@ layer-of-spec =
         let a = s .args in
         asks (start _ (layer (a .version) (a .next) (a .before)) (s .pre)) next (c .layer-config .result)
         (c .layer-config .ensures)
+
+    configured : tie.After-r → Along Stream
+    configured c = gave (config (c .before .before)) (c .r .given .1)

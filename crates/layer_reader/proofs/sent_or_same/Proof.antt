@@ -17,9 +17,7 @@ sent-or-same-spec =
     (tie.spec (λ c κs. search needs) (λ c. search needs) (λ c. search needs) (λ c κs. search needs)
     (λ c. hands (flag (c .before .before .before)) (c .before .enum-told .given .1) (c .why .ensures))
     (λ c. ends (when (flagged (c .before .before)) _ _ refl (eq-eqb _ 1 (c .if1 .taken))) gives)
-    (λ c κs. flagged (c .before .before) .stands)
-    (λ c. let i = c .before in
-        last (unless (flagged (i .before .before)) _ _ refl (ne-eqb _ 1 (i .if1 .left))) (c .configuration-of .ensures)))
+    (λ c κs. sent c .stands) (λ c. last (sent (c .before)) (c .configuration-of .ensures)))
   where
     flag : tie.After-fetch → Asked toldFetched Config
     flag c =
@@ -29,3 +27,6 @@ sent-or-same-spec =
 
     flagged : tie.After-one → Along Config
     flagged c = gave (flag (c .before .before)) (c .one .given .1)
+
+    sent : tie.Else1 → Along Config
+    sent c = unless (flagged (c .before .before)) _ _ refl (ne-eqb _ 1 (c .if1 .left))

@@ -20,9 +20,7 @@ windowed-of-spec =
     (λ c. search needs) (λ c. omega (arith, measured (c .before .before) .stands))
     (λ c κs. measured (c .before .before) .stands) (λ c. search needs) (λ c. search needs)
     (λ c. stops (config (c .before .before .before)) (c .before .x .given .1)) (λ c κs. search needs)
-    (λ c κs. let r = c .before .before .before in
-        let l = measured (r .before .before .before .before .before) in
-        (omega (arith, c .left-of .ensures, l .stands), configured r .stands))
+    skip-requires
     (λ c. search needs) (λ c. search needs)
     (λ c. stops (fill (c .before .before .before)) (c .before .x2 .given .1))
     (λ c. let f = c .before .before in ends (gave (fill (f .before .before)) (f .c3 .given .1)) gives))
@@ -47,3 +45,9 @@ windowed-of-spec =
     fill c =
         asks (configured (c .before .before .before .before)) next (c .skip .result)
         (rw (c .before .left-of .ensures) at (c .skip .ensures))
+
+    skip-requires : tie.Need-skip-requires
+    skip-requires c κs =
+        let r = c .before .before .before in
+        let l = measured (r .before .before .before .before .before) in
+        (omega (arith, c .left-of .ensures, l .stands), configured r .stands)

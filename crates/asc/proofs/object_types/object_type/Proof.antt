@@ -18,19 +18,8 @@ object-type-spec =
     tie.close
     (tie.spec (λ c κs. search needs) (λ c. search needs) (λ c. search needs)
     (λ c. returned (five (c .before .before)) (c .enum-told .given .1))
-    (λ c κs. let f = c .before .before in
-        let a = five (f .before .before) in
-        let g = f .five .given .1 in
-        (omega (arith, took _ 5 (came a g) .moved), gave a g .stands))
-    (λ c. let i = c .before in
-        last (when (typed (i .before .before)) _ _ refl (eq-eqb _ 31 (i .if1 .taken))) (c .escaped .ensures))
-    (λ c κs. search needs)
-    (λ c. ends (needed (plain (c .before .before)) _ _ _ refl (sym (c .before .carried .ensures) ∙ c .if2 .taken)) gives)
-    (λ c κs. search needs)
-    (λ c. let i = c .before in
-        let f = i .before .before .before .before in
-        ends (plain (i .before .before)) (fails _ 5 (sym (i .before .carried .ensures) ∙ i .if2 .left)
-        (took _ 5 (came (five (f .before .before)) (f .five .given .1)) .moved) (c .refused-at .ensures))))
+    escaped-requires (λ c. last (long (c .before)) (c .escaped .ensures)) (λ c κs. search needs)
+    (λ c. ends (kept c) gives) (λ c κs. search needs) returns-4)
   where
     five : tie.After-take-at → Asked toldFetched ℕ
     five c =
@@ -41,6 +30,27 @@ object-type-spec =
     typed : tie.After-five → Along ℕ
     typed c = gave (five (c .before .before)) (c .five .given .1)
 
-    -- no six more bits
+    -- with six more bits, or without
+    long : tie.Then1 → Along ℕ
+    long c = when (typed (c .before .before)) _ _ refl (eq-eqb _ 31 (c .if1 .taken))
+
     plain : tie.Else1 → Along ℕ
     plain c = unless (typed (c .before .before)) _ _ refl (ne-eqb _ 31 (c .if1 .left))
+
+    kept : tie.Then2 → Along ℕ
+    kept c =
+        let i = c .before in needed (plain (i .before)) _ _ _ refl (sym (i .carried .ensures) ∙ c .if2 .taken)
+
+    escaped-requires : tie.Need-escaped-requires
+    escaped-requires c κs =
+        let f = c .before .before in
+        let a = five (f .before .before) in
+        let g = f .five .given .1 in
+        (omega (arith, took _ 5 (came a g) .moved), gave a g .stands)
+
+    returns-4 : tie.Need-returns-4
+    returns-4 c =
+        let i = c .before in
+        let f = i .before .before .before .before in
+        ends (plain (i .before .before)) (fails _ 5 (sym (i .before .carried .ensures) ∙ i .if2 .left)
+        (took _ 5 (came (five (f .before .before)) (f .five .given .1)) .moved) (c .refused-at .ensures))

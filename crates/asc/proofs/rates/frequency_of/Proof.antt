@@ -19,15 +19,9 @@ frequency-of-spec =
     (tie.spec (λ c κs. search needs) (λ c. search needs) (λ c. search needs) (λ c κs. search needs)
     (λ c. hands (index (c .before .before .before)) (c .before .enum-told .given .1) (c .why .ensures))
     (λ c κs. indexed (c .before .before) .stands) (λ c κs. search needs)
-    (λ c. let f = c .before .before .before in
-        last (when (above-12 f (omega arith)) _ _ refl (eq-eqb (f .four .given .0 .0) 15 (omega arith)))
-        (c .hertz-of .ensures))
-    (λ c. let f = c .before .before .before in
-        ends (when (indexed f) _ _ refl (le-leb (f .four .given .0 .0) 12 (omega arith))) gives)
-    (λ c. let f = c .before .before .before .before in
-        let other : f .four .given .0 .0 ≡ 15 → ⊥ = λ e. omega arith in
-        ends (unless (above-12 f (omega arith)) _ _ refl (ne-eqb _ 15 other))
-        (refuses (took _ 4 (came (index (f .before .before)) (f .four .given .1)) .moved) (c .refused-at .ensures))))
+    returns-2
+    returns-3
+    returns-4)
   where
     index : tie.After-take-at → Asked toldFetched Freq
     index c = asks (start _ (frequency _) (c .before .before .pre)) next (c .take-at .result) (c .take-at .ensures)
@@ -37,3 +31,21 @@ frequency-of-spec =
 
     above-12 : (c : tie.After-four) → 12 < c .four .given .0 .0 → Along Freq
     above-12 c h = unless (indexed c) _ _ refl (lt-leb _ 12 h)
+
+    returns-2 : tie.Need-returns-2
+    returns-2 c =
+        let f = c .before .before .before in
+        last (when (above-12 f (omega arith)) _ _ refl (eq-eqb (f .four .given .0 .0) 15 (omega arith)))
+        (c .hertz-of .ensures)
+
+    returns-3 : tie.Need-returns-3
+    returns-3 c =
+        let f = c .before .before .before in
+        ends (when (indexed f) _ _ refl (le-leb (f .four .given .0 .0) 12 (omega arith))) gives
+
+    returns-4 : tie.Need-returns-4
+    returns-4 c =
+        let f = c .before .before .before .before in
+        let other : f .four .given .0 .0 ≡ 15 → ⊥ = λ e. omega arith in
+        ends (unless (above-12 f (omega arith)) _ _ refl (ne-eqb _ 15 other))
+        (refuses (took _ 4 (came (index (f .before .before)) (f .four .given .1)) .moved) (c .refused-at .ensures))

@@ -18,14 +18,22 @@ hertz-of-spec =
     (tie.spec (λ c κs. search needs) (λ c. search needs) (λ c. search needs) (λ c κs. search needs)
     (λ c. hands (rate (c .before .before .before)) (c .before .enum-told .given .1) (c .why .ensures))
     (λ c κs. search needs)
-    (λ c. let f = c .before .before .before in
-        let a = rate (f .before .before) in
-        let g = f .hz .given .1 in
-        ends (gave a g) (fails _ 24 (lt-leb 1 (f .hz .given .0 .0) (omega arith)) (took _ 24 (came a g) .moved)
-        (c .refused-at .ensures)))
-    (λ c. let f = c .before .before in
-        ends (needed (gave (rate (f .before .before)) (f .hz .given .1)) _ _ _ refl
-        (le-leb 1 (f .hz .given .0 .0) (omega arith))) gives))
+    returns-2
+    returns-3)
   where
     rate : tie.After-take-at → Asked toldFetched Freq
     rate c = asks (start _ (hertz _) (c .before .before .pre)) next (c .take-at .result) (c .take-at .ensures)
+
+    returns-2 : tie.Need-returns-2
+    returns-2 c =
+        let f = c .before .before .before in
+        let a = rate (f .before .before) in
+        let g = f .hz .given .1 in
+        ends (gave a g) (fails _ 24 (lt-leb 1 (f .hz .given .0 .0) (omega arith)) (took _ 24 (came a g) .moved)
+        (c .refused-at .ensures))
+
+    returns-3 : tie.Need-returns-3
+    returns-3 c =
+        let f = c .before .before in
+        ends (needed (gave (rate (f .before .before)) (f .hz .given .1)) _ _ _ refl
+        (le-leb 1 (f .hz .given .0 .0) (omega arith))) gives

@@ -20,15 +20,9 @@ extension-type-spec =
     (tie.spec (λ c κs. search needs) (λ c. search needs) (λ c. search needs) (λ c κs. search needs)
     (λ c. hands (type (c .before .before .before)) (c .before .enum-told .given .1) (c .why .ensures))
     (λ c κs. typed (c .before .before) .stands) (λ c κs. search needs)
-    (λ c. let n = c .before .before .before in
-        last (when (typed n) _ _ refl (eq-eqb (n .number .given .0 .0) 5 (omega arith))) (c .sbr-extension .ensures))
-    (λ c. let n = c .before .before .before in
-        ends (when (not-5 n (λ e. omega arith)) _ _ refl (eq-eqb (n .number .given .0 .0) 22 (omega arith)))
-        (refuses (five-bits _ (came (type (n .before .before)) (n .number .given .1)) (omega arith))
-        (c .refused-at .ensures)))
-    (λ c. let n = c .before .before in
-        let other : n .number .given .0 .0 ≡ 22 → ⊥ = λ e. omega arith in
-        ends (unless (not-5 n (λ e. omega arith)) _ _ refl (ne-eqb _ 22 other)) gives))
+    returns-2
+    returns-3
+    returns-4)
   where
     type : tie.After-any-type → Asked toldFetched Form
     type c = asks (start _ (extensionType _) (c .before .before .pre)) next (c .any-type .result) (c .any-type .ensures)
@@ -38,3 +32,21 @@ extension-type-spec =
 
     not-5 : (c : tie.After-number) → (c .number .given .0 .0 ≡ 5 → ⊥) → Along Form
     not-5 c h = unless (typed c) _ _ refl (ne-eqb _ 5 h)
+
+    returns-2 : tie.Need-returns-2
+    returns-2 c =
+        let n = c .before .before .before in
+        last (when (typed n) _ _ refl (eq-eqb (n .number .given .0 .0) 5 (omega arith))) (c .sbr-extension .ensures)
+
+    returns-3 : tie.Need-returns-3
+    returns-3 c =
+        let n = c .before .before .before in
+        ends (when (not-5 n (λ e. omega arith)) _ _ refl (eq-eqb (n .number .given .0 .0) 22 (omega arith)))
+        (refuses (five-bits _ (came (type (n .before .before)) (n .number .given .1)) (omega arith))
+        (c .refused-at .ensures))
+
+    returns-4 : tie.Need-returns-4
+    returns-4 c =
+        let n = c .before .before in
+        let other : n .number .given .0 .0 ≡ 22 → ⊥ = λ e. omega arith in
+        ends (unless (not-5 n (λ e. omega arith)) _ _ refl (ne-eqb _ 22 other)) gives

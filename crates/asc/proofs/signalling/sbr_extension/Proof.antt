@@ -19,9 +19,7 @@ sbr-extension-spec =
     (λ c. hands (flag (c .before .before .before)) (c .before .enum-told .given .1) (c .why .ensures))
     (λ c κs. flagged (c .before .before) .stands) (λ c. search needs) (λ c. search needs)
     (λ c. stops (rate (c .before .before .before)) (c .before .x .given .1))
-    (λ c κs. gave (rate (c .before .before .before)) (c .before .r .given .1) .stands)
-    (λ c. let r = c .before .before in
-        last (gave (rate (r .before .before)) (r .r .given .1)) (c .ps-tail .ensures))
+    (λ c κs. rated (c .before) .stands) (λ c. last (rated (c .before .before)) (c .ps-tail .ensures))
     (λ c. ends (unless (flagged (c .before .before)) _ _ refl (ne-eqb _ 1 (c .if1 .left))) gives))
   where
     flag : tie.After-take-at → Asked toldFetched Form
@@ -35,3 +33,6 @@ sbr-extension-spec =
         let i = c .before in
         asks (when (flagged (i .before .before)) _ _ refl (eq-eqb _ 1 (i .if1 .taken))) next (c .frequency-of .result)
         (c .frequency-of .ensures)
+
+    rated : tie.After-r → Along Form
+    rated c = gave (rate (c .before .before)) (c .r .given .1)

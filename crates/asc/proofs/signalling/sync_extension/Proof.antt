@@ -16,9 +16,7 @@ sync-extension-spec =
     tie.close
     (tie.spec (λ c κs. search needs) (λ c. search needs) (λ c. search needs) (λ c κs. search needs)
     (λ c. hands (sync (c .before .before .before)) (c .before .enum-told .given .1) (c .why .ensures))
-    (λ c κs. synced (c .before .before) .stands)
-    (λ c. let i = c .before in
-        last (when (synced (i .before .before)) _ _ refl (eq-eqb _ 695 (i .if1 .taken))) (c .extension-type .ensures))
+    (λ c κs. extended c .stands) (λ c. last (extended (c .before)) (c .extension-type .ensures))
     (λ c. ends (unless (synced (c .before .before)) _ _ refl (ne-eqb _ 695 (c .if1 .left))) gives))
   where
     sync : tie.After-take-at → Asked toldFetched Form
@@ -26,3 +24,6 @@ sync-extension-spec =
 
     synced : tie.After-sync → Along Form
     synced c = gave (sync (c .before .before)) (c .sync .given .1)
+
+    extended : tie.Then1 → Along Form
+    extended c = when (synced (c .before .before)) _ _ refl (eq-eqb _ 695 (c .if1 .taken))

@@ -27,23 +27,14 @@ head-of-spec =
     (λ c. search needs) (λ c. search needs) (λ c κs. search needs)
     (λ c. (hands (framing (c .before .before .before)) (c .before .enum-told4 .given .1) (c .why4 .ensures), tt))
     (λ c κs. search needs)
-    (λ c. let e = c .before .before .before in
-        let a = framing (e .before .before) in
-        let g = e .e .given .1 in
-        (ends (gave a g) (fails _ 1 (ne-eqb _ 1 (c .before .if1 .taken)) (took _ 1 (came a g) .moved)
-        (c .refused-at .ensures)), tt))
+    returns-5
     (λ c κs. omega (arith, together c .stands))
     (λ c. search needs) (λ c. search needs) (λ c κs. search needs)
     (λ c. (hands (subframes (c .before .before .before)) (c .before .enum-told5 .given .1) (c .why5 .ensures), tt))
     (λ c κs. omega (arith, gave (subframes (c .before .before .before)) (c .before .f .given .1) .stands))
     (λ c. search needs) (λ c. search needs) (λ c κs. search needs)
     (λ c. (hands (programs (c .before .before .before)) (c .before .enum-told6 .given .1) (c .why6 .ensures), tt))
-    (λ c. let a = programs (c .before .before .before) in
-        let g = c .before .g .given .1 in
-        let f = c .before .before .before .before .before in
-        let few-subframes = took _ 6 (came (subframes (f .before .before)) (f .f .given .1)) .narrow in
-        let few-programs = took _ 4 (came a g) .narrow in
-        (ends (gave a g) gives, (omega arith, omega arith))))
+    returns-8)
   where
     version : tie.After-fetch → Asked toldFetched Head
     version c = asks (start _ muxHead (c .before .before .pre)) next (c .fetch .result) (c .fetch .ensures)
@@ -77,3 +68,22 @@ head-of-spec =
     programs c =
         let f = c .before .before in
         asks (gave (subframes (f .before .before)) (f .f .given .1)) next (c .fetch4 .result) (c .fetch4 .ensures)
+
+    returns-5 : tie.Need-returns-5
+    returns-5 c =
+        let e = c .before .before .before in
+        let a = framing (e .before .before) in
+        let g = e .e .given .1 in (
+          ends (gave a g) (fails _ 1 (ne-eqb _ 1 (c .before .if1 .taken)) (took _ 1 (came a g) .moved)
+              (c .refused-at .ensures)),
+          tt,
+        )
+
+    returns-8 : tie.Need-returns-8
+    returns-8 c =
+        let a = programs (c .before .before .before) in
+        let g = c .before .g .given .1 in
+        let f = c .before .before .before .before .before in
+        let few-subframes = took _ 6 (came (subframes (f .before .before)) (f .f .given .1)) .narrow in
+        let few-programs = took _ 4 (came a g) .narrow in
+        (ends (gave a g) gives, (omega arith, omega arith))

@@ -16,14 +16,22 @@ subversion-of-spec =
     tie.close
     (tie.spec (λ c κs. search needs) (λ c. search needs) (λ c. search needs)
     (λ c. returned (flag (c .before .before)) (c .enum-told .given .1))
-    (λ c. let f = c .before .before in
-        ends (needed (gave (flag (f .before .before)) (f .one .given .1)) _ _ _ refl (eq-eqb _ 0 (c .if1 .taken))) gives)
+    returns-2
     (λ c κs. search needs)
-    (λ c. let f = c .before .before .before in
-        let a = flag (f .before .before) in
-        let g = f .one .given .1 in
-        ends (gave a g) (fails _ 1 (ne-eqb _ 0 (c .before .if1 .left)) (took _ 1 (came a g) .moved)
-        (c .refused-at .ensures))))
+    returns-3)
   where
     flag : tie.After-fetch → Asked toldFetched ℕ
     flag c = asks (start _ muxVersionA (c .before .before .pre)) next (c .fetch .result) (c .fetch .ensures)
+
+    returns-2 : tie.Need-returns-2
+    returns-2 c =
+        let f = c .before .before in
+        ends (needed (gave (flag (f .before .before)) (f .one .given .1)) _ _ _ refl (eq-eqb _ 0 (c .if1 .taken))) gives
+
+    returns-3 : tie.Need-returns-3
+    returns-3 c =
+        let f = c .before .before .before in
+        let a = flag (f .before .before) in
+        let g = f .one .given .1 in
+        ends (gave a g) (fails _ 1 (ne-eqb _ 0 (c .before .if1 .left)) (took _ 1 (came a g) .moved)
+        (c .refused-at .ensures))

@@ -17,17 +17,25 @@ num-layer-spec =
     (tie.spec (λ c κs. search needs) (λ c. search needs) (λ c. search needs)
     (λ c. returned (three (c .before .before)) (c .enum-told .given .1))
     (λ c. search needs) (λ c. search needs) (λ c. search needs)
-    (λ c. let f = c .before .before in
-        ends (needed (gave (three (f .before .before)) (f .three .given .1)) _ _ _ refl (le-leb _ 16 (c .if1 .taken)))
-        gives)
+    returns-2
     (λ c κs. search needs)
-    (λ c. let f = c .before .before .before in
-        let a = three (f .before .before) in
-        let g = f .three .given .1 in
-        ends (gave a g) (fails _ 3 (lt-leb _ 16 (c .before .if1 .left)) (took _ 3 (came a g) .moved)
-        (c .refused-at .ensures))))
+    returns-3)
   where
     three : tie.After-fetch → Asked toldFetched ℕ
     three c =
         let s = c .before .before in
         asks (start _ (numLayer (s .args .next)) (s .pre .1)) next (c .fetch .result) (c .fetch .ensures)
+
+    returns-2 : tie.Need-returns-2
+    returns-2 c =
+        let f = c .before .before in
+        ends (needed (gave (three (f .before .before)) (f .three .given .1)) _ _ _ refl (le-leb _ 16 (c .if1 .taken)))
+        gives
+
+    returns-3 : tie.Need-returns-3
+    returns-3 c =
+        let f = c .before .before .before in
+        let a = three (f .before .before) in
+        let g = f .three .given .1 in
+        ends (gave a g) (fails _ 3 (lt-leb _ 16 (c .before .if1 .left)) (took _ 3 (came a g) .moved)
+        (c .refused-at .ensures))

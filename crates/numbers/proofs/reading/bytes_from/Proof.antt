@@ -1,5 +1,5 @@
 -- `numbers::reading::bytes_from` meets its contract.
-use Prim.Native.Nat.{ℕ, _+_, _*_, _<_}
+use Prim.Native.Nat.{ℕ, _+_, _*_, _^_, _<_}
 use native.Mathlib.Omega.{arith}
 use lib.Pow.{pow-pos}
 use borrow.Author.Needs.{needs}
@@ -24,22 +24,26 @@ byte c =
     asks (that-is (resumed (l .inv .remains)) (bytes-more (l .left) (l .v) (omega arith))) next (c .fetch .result)
     (c .fetch .ensures)
 
+narrow : (c : tie.After-known-told Inv-loop μ-loop) → c .before .a .given .0 .0 < 2 ^ 8
+narrow c = took Open 8 (came (byte (c .before .before .before)) (c .before .a .given .1)) .narrow
+
 fits : (c : tie.After-known-told Inv-loop μ-loop)
     → 256 * c .before .before .before .before .before .loop .v + c .before .a .given .0 .0 < 4294967296
-fits c =
-    let f = c .before .before .before in
-    more-fits (f .before .before .loop .inv) (omega arith) (took Open 8 (came (byte f) (c .before .a .given .1)) .narrow)
-    (omega arith)
+fits c = more-fits (c .before .before .before .before .before .loop .inv) (omega arith) (narrow c) (omega arith)
 
 loop-again : tie.Need-loop-again Inv-loop μ-loop
 loop-again c =
     let f = c .before .before .before in
-    let g = c .before .a .given .1 in
     record {
       few = omega arith;
-      small = more-small (f .before .before .loop .inv) (omega arith) (took Open 8 (came (byte f) g) .narrow);
-      remains = remains (gave (byte f) g);
+      small = more-small (f .before .before .loop .inv) (omega arith) (narrow c);
+      remains = remains (gave (byte f) (c .before .a .given .1));
     }
+
+returns-2 : tie.Need-returns-2 Inv-loop μ-loop
+returns-2 c =
+    let l = c .before .loop in
+    ends (that-is (resumed (l .inv .remains)) (bytes-none (l .left) (l .v) (omega arith))) gives
 
 pub bytes-from-spec : {M : Type 1} → statement M
 bytes-from-spec =
@@ -49,5 +53,4 @@ bytes-from-spec =
     (λ c κs. omega arith) (λ c. search needs) (λ c. search needs)
     (λ c. returned (byte (c .before .before)) (c .enum-told .given .1))
     (λ c. omega (arith, fits c)) (λ c. omega (arith, fits c)) (λ c. omega arith) (λ c. omega arith) loop-again
-    (λ c. let l = c .before .loop in
-        ends (that-is (resumed (l .inv .remains)) (bytes-none (l .left) (l .v) (omega arith))) gives))
+    returns-2)

@@ -1,6 +1,6 @@
 -- `numbers::reading::groups_of` meets its contract.
 use mathlib.Core.Path.{refl}
-use Prim.Native.Nat.{ℕ, _+_, _*_, _<_}
+use Prim.Native.Nat.{ℕ, _+_, _*_, _^_, _<_}
 use native.Mathlib.Omega.{arith}
 use borrow.Author.Needs.{needs}
 use borrow.Author.Tests.{eq-eqb, ne-eqb, not-true, not-false}
@@ -35,23 +35,27 @@ may c =
 abbrev byte : tie.After-fetch2 Inv-loop μ-loop → Asked toldFetched ℕ
 byte c = asks (may (c .before)) next (c .fetch2 .result) (c .fetch2 .ensures)
 
+abbrev grown : tie.After-b Inv-loop μ-loop → Along ℕ
+grown c = gave (byte (c .before .before)) (c .b .given .1)
+
+narrow : (c : tie.After-b Inv-loop μ-loop) → c .b .given .0 .0 < 2 ^ 8
+narrow c = took Open 8 (came (byte (c .before .before)) (c .b .given .1)) .narrow
+
 fits : (c : tie.After-b Inv-loop μ-loop)
     → 256 * c .before .before .before .before .before .before .before .before .before .loop .v + c .b .given .0 .0
     < 4294967296
 fits c =
-    let f = c .before .before in
-    more-fits (f .before .before .before .before .before .before .before .loop .inv) (omega arith)
-    (took Open 8 (came (byte f) (c .b .given .1)) .narrow) (omega arith)
+    more-fits (c .before .before .before .before .before .before .before .before .before .loop .inv) (omega arith)
+    (narrow c) (omega arith)
 
 loop-again : tie.Need-loop-again Inv-loop μ-loop
 loop-again c =
-    let f = c .before .before .before .before in
-    let g = c .before .before .b .given .1 in
+    let b = c .before .before in
+    let l = b .before .before .before .before .before .before .before .before .before .loop in
     record {
       few = omega arith;
-      small = more-small (f .before .before .before .before .before .before .before .loop .inv) (omega arith)
-          (took Open 8 (came (byte f) g) .narrow);
-      remains = remains (when (gave (byte f) g) _ _ refl (eq-eqb _ 1 (c .if2 .left)));
+      small = more-small (l .inv) (omega arith) (narrow b);
+      remains = remains (when (grown b) _ _ refl (eq-eqb _ 1 (c .if2 .left)));
     }
 
 returns-2 : tie.Need-returns-2 Inv-loop μ-loop
@@ -61,6 +65,11 @@ returns-2 c =
     let f = bit (a .before .before) in
     ends (gave f g) (fails _ 1 (not-true _ (c .before .if1 .taken)) (took Open 1 (came f g) .moved)
     (c .refused-at .ensures))
+
+returns-5 : tie.Need-returns-5 Inv-loop μ-loop
+returns-5 c =
+    let l = c .before .loop in
+    ends (that-is (resumed (l .inv .remains)) (groups-none (l .left) (l .v) (omega arith))) gives
 
 pub groups-of-spec : {M : Type 1} → statement M
 groups-of-spec =
@@ -72,8 +81,5 @@ groups-of-spec =
     (λ c κs. omega (arith, may c .stands)) (λ c. search needs) (λ c. search needs)
     (λ c. returned (byte (c .before .before)) (c .enum-told2 .given .1))
     (λ c. omega (arith, fits (c .before))) (λ c. omega (arith, fits (c .before)))
-    (λ c. let b = c .before .before in
-        ends (unless (gave (byte (b .before .before)) (b .b .given .1)) _ _ refl (ne-eqb _ 1 (c .if2 .taken))) gives)
-    (λ c. omega arith) (λ c. omega arith) loop-again
-    (λ c. let l = c .before .loop in
-        ends (that-is (resumed (l .inv .remains)) (groups-none (l .left) (l .v) (omega arith))) gives))
+    (λ c. ends (unless (grown (c .before .before)) _ _ refl (ne-eqb _ 1 (c .if2 .taken))) gives)
+    (λ c. omega arith) (λ c. omega arith) loop-again returns-5)
