@@ -14,9 +14,9 @@ use Rattle.config_reader.specs.Promises.{TellsBeside}
 module _ {A : Type 0} {blank : A} (s : List ℕ) (m : Reading A) (at n : ℕ) where
   -- a refusal: what stands beside it is blank, and the table is as it was
   pub refusing : {v : Reached} {a : A} {x : Refusal} (table : List (List ℕ)) (layers : List ℕ) (last : ℕ) (X : Type 0)
-      → v ≡ Refused x → a ≡ blank → refusal x ≡ told (run s m at n)
+      → (v ≡ Refused x) × (a ≡ blank) → refusal x ≡ told (run s m at n)
       → (TellsBeside blank s m at n v a × (table ≡ tableAfter v table layers last)) × IfReached v X
-  refusing table layers last X e h q = rw e (((q, h), refl), tt)
+  refusing table layers last X e q = rw (e .0) (((q, e .1), refl), tt)
 
 module _ {A : Type 0} (blank : A) where
   back : (v : Reached) (a : A) → IfRefused v (a ≡ blank)

@@ -4,12 +4,14 @@ use mathlib.Core.Bool.{Bool, true, false}
 use mathlib.Core.List.{List}
 use Prim.Native.Nat.{ℕ}
 use Rattle.kernel.specs.declared.Refusal.{Refusal}
-use Rattle.kernel.specs.declared.Fetched.the-variants.{Refused}
-use Rattle.kernel.specs.Reading.{Reading, give, here, choose, need, _>>=_, _>>_, run, Stands}
+use Rattle.kernel.specs.declared.Cursor.{Cursor}
+use Rattle.kernel.specs.declared.Fetched.the-variants.{Value, Refused}
+use Rattle.kernel.specs.declared.Window.{Window}
+use Rattle.kernel.specs.Reading.{Reading, give, field, here, choose, need, _>>=_, _>>_, run, Stands, refusedAt}
 use Rattle.kernel.specs.Answer.{Told, value, refusal, told, toldFetched, whyFetched}
 use Rattle.kernel.specs.Promises.{Tells}
 use Rattle.kernel.proofs.Run.{bind-give}
-use Rattle.kernel.proofs.Chain.{Comes, itself, yes-way, no-way, holds, placed, on, off, steady}
+use Rattle.kernel.proofs.Chain.{Comes, itself, yes-way, no-way, holds, fails, placed, on, off, steady, took}
 
 -- of the reading `all`, from bit `at` with n fields read, `rest` is left from bit `to` on, with `count` fields read:
 -- what the rest comes to, the whole comes to. It is what a loop that reads keeps
@@ -44,6 +46,26 @@ next = record { is = refl }
 -- p is all of it
 pub only : {A : Type 0} {p : Reading A} → Leads p p give
 only {p} = record { is = sym (bind-give p) }
+
+-- what is left lets a test choose, or goes on where a test holds
+pub record Chooses {A : Type 0} (r : Reading A) (b : Bool) (x y : Reading A) : Type 0 where
+  pub is : r ≡ choose b x y
+
+abbrev pub either : {A : Type 0} {b : Bool} {x y : Reading A} → Chooses (choose b x y) b x y
+either = record { is = refl }
+
+pub record Needs {A : Type 0} (r : Reading A) (b : Bool) (m w : ℕ) (k : Reading A) : Type 0 where
+  pub is : r ≡ (need b m w >> k)
+
+abbrev pub must : {A : Type 0} {b : Bool} {m w : ℕ} {k : Reading A} → Needs (need b m w >> k) b m w k
+must = record { is = refl }
+
+-- p is a field
+pub record IsField (p : Reading ℕ) (win : Window) (w : ℕ) : Type 0 where
+  pub is : p ≡ field win w
+
+abbrev pub a-field : {win : Window} {w : ℕ} → IsField (field win w) win w
+a-field = record { is = refl }
 
 -- a refusal, which goes up as it is
 abbrev up : {A B : Type 0} → Told B → Told A → Told A
@@ -108,14 +130,14 @@ module _ {A : Type 0} where
     noted {f} q = still (f (l .to)) (λ o h. rw (q .is) (placed f h))
 
     -- a test chose a way, or held
-    abbrev pub when : {b : Bool} (x y : Reading A) → l .rest ≡ choose b x y → b ≡ true → Along A
-    when x y q e = still x (λ o h. rw q (yes-way y e h))
+    abbrev pub when : {b : Bool} {x y : Reading A} → Chooses (l .rest) b x y → b ≡ true → Along A
+    when {x = x} {y = y} q e = still x (λ o h. rw (q .is) (yes-way y e h))
 
-    abbrev pub unless : {b : Bool} (x y : Reading A) → l .rest ≡ choose b x y → b ≡ false → Along A
-    unless x y q e = still y (λ o h. rw q (no-way x e h))
+    abbrev pub unless : {b : Bool} {x y : Reading A} → Chooses (l .rest) b x y → b ≡ false → Along A
+    unless {x = x} {y = y} q e = still y (λ o h. rw (q .is) (no-way x e h))
 
-    abbrev pub needed : {b : Bool} (r w : ℕ) (k : Reading A) → l .rest ≡ (need b r w >> k) → b ≡ true → Along A
-    needed r w k q e = still k (λ o h. rw q (holds r w e h))
+    abbrev pub needed : {b : Bool} {m w : ℕ} {k : Reading A} → Needs (l .rest) b m w k → b ≡ true → Along A
+    needed {m = m} {w = w} {k = k} q e = still k (λ o h. rw (q .is) (holds m w e h))
 
     -- what is left comes to what is told: so does the whole
     pub ends : {o : Told A} → Comes (l .bytes) (l .rest) (l .to) (l .count) o → o ≡ outcome l
@@ -162,10 +184,18 @@ module _ {A X B : Type 0} {t : X → Told B} where
     stops = goes-up (a .before) (a .leads) (t y) came
 
 -- it refused: its refusal, as `why` hands it on; its answer, where that is returned
-module _ {A : Type 0} (a : Asked toldFetched A) {r : Refusal} (g : a .answer ≡ Refused r) where
-  pub hands : {y : Refusal} → y ≡ whyFetched (a .answer) → refusal y ≡ outcome (a .before)
-  hands w = ap refusal (w ∙ ap whyFetched g) ∙ stops a g
+pub hands : {A : Type 0} (a : Asked toldFetched A) {r : Refusal} → a .answer ≡ Refused r
+    → {y : Refusal} → y ≡ whyFetched (a .answer) → refusal y ≡ outcome (a .before)
+hands a g w = ap refusal (w ∙ ap whyFetched g) ∙ stops a g
 
 pub returned : (a : Asked toldFetched ℕ) {r : Refusal} → a .answer ≡ Refused r
     → toldFetched (a .answer) ≡ outcome (a .before)
 returned a g = ap toldFetched g ∙ stops a g
+
+-- it gave a field whose value fails the test behind it
+pub denied : {A : Type 0} (a : Asked toldFetched A) {v : ℕ} {c : Cursor} → a .answer ≡ Value v c
+    → {win : Window} {w : ℕ} → IsField (a .part) win w
+    → {b : Bool} {m : ℕ} {k : Reading A} → Needs (a .onward v) b m w k → b ≡ false
+    → {x : Refusal} → x ≡ refusedAt m (a .before .to) (c .fields) → refusal x ≡ outcome (a .before)
+denied a g {win} {w} f {k = k} n t r =
+    ends (that-is (gave a g) (n .is)) (fails k w t (took win w (rw (f .is) at (came a g)) .moved) r)

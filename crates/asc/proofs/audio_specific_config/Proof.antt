@@ -1,8 +1,8 @@
 -- `asc::audio_specific_config` meets its contract.
-use mathlib.Core.Path.{refl, sym, _∙_}
+use mathlib.Core.Path.{sym, _∙_}
 use borrow.Author.Needs.{needs}
 use Rattle.kernel.specs.Answer.{toldFetched}
-use Rattle.kernel.proofs.Along.{Along, Asked, start, asks, next, gave, stops, hands, when, unless, last}
+use Rattle.kernel.proofs.Along.{Along, Asked, start, asks, next, gave, stops, hands, when, unless, either, last}
 use Rattle.records.specs.declared.Config.{Config}
 use Rattle.asc.specs.Asc.{audioSpecificConfig}
 use Rattle.asc.specs.Answer.{toldRated}
@@ -47,9 +47,9 @@ audio-specific-config-spec =
     core : tie.Then1 → Along Config
     core c =
         let i = c .before in
-        when (channelled (i .before .before)) _ _ refl (sym (i .is-core .ensures) ∙ c .if1 .taken)
+        when (channelled (i .before .before)) either (sym (i .is-core .ensures) ∙ c .if1 .taken)
 
     front : tie.Else1 → Along Config
     front c =
         let i = c .before in
-        unless (channelled (i .before .before)) _ _ refl (sym (i .is-core .ensures) ∙ c .if1 .left)
+        unless (channelled (i .before .before)) either (sym (i .is-core .ensures) ∙ c .if1 .left)

@@ -1,5 +1,5 @@
 -- `asc::channel_configuration` meets its contract.
-use mathlib.Core.Path.{_≡_, refl}
+use mathlib.Core.Path.{_≡_}
 use mathlib.Core.Bool.{true, false, _&&_}
 use mathlib.Core.Logic.{_⊎_, inl, inr}
 use Prim.Native.Nat.{ℕ, _≤_, _<_}
@@ -8,8 +8,8 @@ use lib.Dec.{leb}
 use borrow.Author.Needs.{needs}
 use borrow.Author.Tests.{le-leb, lt-leb}
 use Rattle.kernel.specs.Answer.{toldFetched}
-use Rattle.kernel.proofs.Chain.{gives, fails, took}
-use Rattle.kernel.proofs.Along.{Asked, start, asks, next, came, gave, returned, needed, ends}
+use Rattle.kernel.proofs.Chain.{gives}
+use Rattle.kernel.proofs.Along.{Asked, start, asks, next, gave, returned, denied, a-field, needed, must, ends}
 use Rattle.asc.specs.Asc.{channelConfiguration}
 use Rattle.asc.proofs.channel_configuration.Statement.{statement}
 use Rattle.asc.proofs.channel_configuration.Tie as tie
@@ -37,14 +37,12 @@ channel-configuration-spec =
     returns-2 : tie.Need-returns-2
     returns-2 c =
         let f = c .before .before .before in
-        ends (needed (gave (four (f .before .before)) (f .four .given .1)) _ _ _ refl
+        ends (needed (gave (four (f .before .before)) (f .four .given .1)) must
         (within (f .four .given .0 .0) (omega arith) (omega arith))) gives
 
     returns-3 : tie.Need-returns-3
     returns-3 c =
         let f = c .before .before .before in
-        let a = four (f .before .before) in
-        let g = f .four .given .1 in
-        let not = outside (f .four .given .0 .0) (elim (c .before .if1 .came)
+        let test = outside (f .four .given .0 .0) (elim (c .before .if1 .came)
         [ inl x ↦ inl (omega (arith, x .taken)) | inr x ↦ inr (omega (arith, x .1 .left)) ]) in
-        ends (gave a g) (fails _ 4 not (took _ 4 (came a g) .moved) (c .refused-at .ensures))
+        denied (four (f .before .before)) (f .four .given .1) a-field must test (c .refused-at .ensures)

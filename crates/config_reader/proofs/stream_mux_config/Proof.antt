@@ -15,15 +15,16 @@ unfolding streamMuxConfig
 stream-mux-config-spec =
     tie.close
     (tie.spec (λ c κs. search needs) (λ c. search needs) (λ c. search needs) (λ c κs. search needs)
-    returns
-    programs-of-requires
-    (λ c. search needs) (λ c. search needs) (λ c κs. search needs)
-    returns-2
+    (λ c. refusing _ _ _ _ _ _ _ _ (c .refused-mux .ensures)
+    (stops (head (c .before .before .before .before)) (c .before .before .x .given .1)))
+    programs-of-requires (λ c. search needs) (λ c. search needs) (λ c κs. search needs)
+    (λ c. refusing _ _ _ _ _ _ _ _ (c .refused-mux2 .ensures)
+    (stops (places (c .before .before .before .before)) (c .before .before .reached2 .given .1)))
     (λ c κs. gave (places (c .before .before .before)) (c .before .reached .given .1) .stands)
     (λ c. search needs) (λ c. search needs) (λ c κs. search needs)
-    returns-3
-    (λ c κs. search needs)
-    returns-4)
+    (λ c. refusing _ _ _ _ _ _ _ _ (c .refused-mux3 .ensures)
+    (stops (ending (c .before .before .before .before)) (c .before .before .x2 .given .1)))
+    (λ c κs. search needs) returns-4)
   where
     head : tie.After-head-of → Asked toldHeaded Record
     head c = asks (start _ streamMuxConfig (c .before .before .pre)) next (c .head-of .result) (c .head-of .ensures .0)
@@ -42,28 +43,10 @@ stream-mux-config-spec =
         asks (gave (places (v .before .before)) (v .reached .given .1)) next (c .ending-of .result)
         (c .ending-of .ensures)
 
-    returns : tie.Need-returns
-    returns c =
-        let x = c .before .before in
-        refusing _ _ _ _ _ _ _ _ (c .refused-mux .ensures .0) (c .refused-mux .ensures .1)
-        (stops (head (x .before .before)) (x .x .given .1))
-
     programs-of-requires : tie.Need-programs-of-requires
     programs-of-requires c κs =
         let r = c .before .before .before in
         ((rw (r .r .given .1) at (r .before .before .head-of .ensures .1)) .0, headed r .stands)
-
-    returns-2 : tie.Need-returns-2
-    returns-2 c =
-        let x = c .before .before in
-        refusing _ _ _ _ _ _ _ _ (c .refused-mux2 .ensures .0) (c .refused-mux2 .ensures .1)
-        (stops (places (x .before .before)) (x .reached2 .given .1))
-
-    returns-3 : tie.Need-returns-3
-    returns-3 c =
-        let x = c .before .before in
-        refusing _ _ _ _ _ _ _ _ (c .refused-mux3 .ensures .0) (c .refused-mux3 .ensures .1)
-        (stops (ending (x .before .before)) (x .x2 .given .1))
 
     returns-4 : tie.Need-returns-4
     returns-4 c =

@@ -1,10 +1,9 @@
 -- `layer_reader::sent_or_same` meets its contract.
-use mathlib.Core.Path.{refl}
 use borrow.Author.Needs.{needs}
 use borrow.Author.Tests.{eq-eqb, ne-eqb}
 use Rattle.kernel.specs.Answer.{toldFetched}
 use Rattle.kernel.proofs.Chain.{gives}
-use Rattle.kernel.proofs.Along.{Along, Asked, start, asks, next, gave, hands, when, unless, last, ends}
+use Rattle.kernel.proofs.Along.{Along, Asked, start, asks, next, gave, hands, when, unless, either, last, ends}
 use Rattle.records.specs.declared.Config.{Config}
 use Rattle.config.specs.Mux.{sentOrSame}
 use Rattle.layer_reader.proofs.sent_or_same.Statement.{statement}
@@ -16,7 +15,7 @@ sent-or-same-spec =
     tie.close
     (tie.spec (λ c κs. search needs) (λ c. search needs) (λ c. search needs) (λ c κs. search needs)
     (λ c. hands (flag (c .before .before .before)) (c .before .enum-told .given .1) (c .why .ensures))
-    (λ c. ends (when (flagged (c .before .before)) _ _ refl (eq-eqb _ 1 (c .if1 .taken))) gives)
+    (λ c. ends (when (flagged (c .before .before)) either (eq-eqb _ 1 (c .if1 .taken))) gives)
     (λ c κs. sent c .stands) (λ c. last (sent (c .before)) (c .configuration-of .ensures)))
   where
     flag : tie.After-fetch → Asked toldFetched Config
@@ -29,4 +28,4 @@ sent-or-same-spec =
     flagged c = gave (flag (c .before .before)) (c .one .given .1)
 
     sent : tie.Else1 → Along Config
-    sent c = unless (flagged (c .before .before)) _ _ refl (ne-eqb _ 1 (c .if1 .left))
+    sent c = unless (flagged (c .before .before)) either (ne-eqb _ 1 (c .if1 .left))

@@ -4,7 +4,7 @@ use borrow.Author.Needs.{needs}
 use Rattle.kernel.specs.Reading.{_>>_}
 use Rattle.kernel.specs.Answer.{toldFetched, toldReached}
 use Rattle.kernel.proofs.Chain.{gives}
-use Rattle.kernel.proofs.Along.{Along, Asked, start, asks, next, gave, noted, stops, hands, ends}
+use Rattle.kernel.proofs.Along.{Along, Asked, start, asks, next, gave, stops, hands, noted, ends}
 use Rattle.records.specs.declared.Config.{Config}
 use Rattle.asc.specs.Answer.{toldConfigured}
 use Rattle.config.specs.Mux.{windowed}

@@ -1,12 +1,11 @@
 -- `asc::object_types::any_type` meets its contract.
-use mathlib.Core.Path.{refl}
 use Prim.Native.Nat.{ℕ}
 use native.Mathlib.Omega.{arith}
 use borrow.Author.Needs.{needs}
 use borrow.Author.Tests.{eq-eqb, ne-eqb}
 use Rattle.kernel.specs.Answer.{toldFetched}
 use Rattle.kernel.proofs.Chain.{gives, took}
-use Rattle.kernel.proofs.Along.{Along, Asked, start, asks, next, came, gave, returned, when, unless, ends}
+use Rattle.kernel.proofs.Along.{Along, Asked, start, asks, next, came, gave, returned, when, unless, either, ends}
 use Rattle.asc.specs.Asc.{anyType}
 use Rattle.asc.proofs.object_types.any_type.Statement.{statement}
 use Rattle.asc.proofs.object_types.any_type.Tie as tie
@@ -21,7 +20,7 @@ any-type-spec =
     (λ c. returned (six (c .before .before)) (c .enum-told2 .given .1))
     (λ c. omega (arith, took _ 6 (came (six (c .before .before .before)) (c .before .six .given .1)) .narrow))
     (λ c. ends (gave (six (c .before .before .before)) (c .before .six .given .1)) gives)
-    (λ c. ends (unless (typed (c .before .before)) _ _ refl (ne-eqb _ 31 (c .if1 .left))) gives))
+    (λ c. ends (unless (typed (c .before .before)) either (ne-eqb _ 31 (c .if1 .left))) gives))
   where
     five : tie.After-take-at → Asked toldFetched ℕ
     five c = asks (start _ (anyType _) (c .before .before .pre)) next (c .take-at .result) (c .take-at .ensures)
@@ -32,5 +31,5 @@ any-type-spec =
     six : tie.After-take-at2 → Asked toldFetched ℕ
     six c =
         let i = c .before in
-        asks (when (typed (i .before .before)) _ _ refl (eq-eqb _ 31 (i .if1 .taken))) next (c .take-at2 .result)
+        asks (when (typed (i .before .before)) either (eq-eqb _ 31 (i .if1 .taken))) next (c .take-at2 .result)
         (c .take-at2 .ensures)

@@ -1,12 +1,13 @@
 -- `asc::object_types::object_type` meets its contract.
-use mathlib.Core.Path.{refl, sym, _∙_}
+use mathlib.Core.Path.{sym, _∙_}
 use Prim.Native.Nat.{ℕ}
 use native.Mathlib.Omega.{arith}
 use borrow.Author.Needs.{needs}
 use borrow.Author.Tests.{eq-eqb, ne-eqb}
 use Rattle.kernel.specs.Answer.{toldFetched}
 use Rattle.kernel.proofs.Chain.{gives, fails, took}
-use Rattle.kernel.proofs.Along.{Along, Asked, start, asks, next, came, gave, returned, when, unless, needed, last, ends}
+use Rattle.kernel.proofs.Along.{Along, Asked, start, asks, next, came, gave, returned, when, unless, either, needed}
+use Rattle.kernel.proofs.Along.{must, last, ends}
 use Rattle.asc.specs.Asc.{objectType}
 use Rattle.asc.specs.Answer.{carriedIf}
 use Rattle.asc.proofs.object_types.object_type.Statement.{statement}
@@ -32,14 +33,14 @@ object-type-spec =
 
     -- with six more bits, or without
     long : tie.Then1 → Along ℕ
-    long c = when (typed (c .before .before)) _ _ refl (eq-eqb _ 31 (c .if1 .taken))
+    long c = when (typed (c .before .before)) either (eq-eqb _ 31 (c .if1 .taken))
 
     plain : tie.Else1 → Along ℕ
-    plain c = unless (typed (c .before .before)) _ _ refl (ne-eqb _ 31 (c .if1 .left))
+    plain c = unless (typed (c .before .before)) either (ne-eqb _ 31 (c .if1 .left))
 
     kept : tie.Then2 → Along ℕ
     kept c =
-        let i = c .before in needed (plain (i .before)) _ _ _ refl (sym (i .carried .ensures) ∙ c .if2 .taken)
+        let i = c .before in needed (plain (i .before)) must (sym (i .carried .ensures) ∙ c .if2 .taken)
 
     escaped-requires : tie.Need-escaped-requires
     escaped-requires c κs =

@@ -1,11 +1,10 @@
 -- `asc::rates::hertz_of` meets its contract.
-use mathlib.Core.Path.{refl}
 use native.Mathlib.Omega.{arith}
 use borrow.Author.Needs.{needs}
 use borrow.Author.Tests.{le-leb, lt-leb}
 use Rattle.kernel.specs.Answer.{toldFetched}
-use Rattle.kernel.proofs.Chain.{gives, fails, took}
-use Rattle.kernel.proofs.Along.{Along, Asked, start, asks, next, came, gave, hands, needed, ends}
+use Rattle.kernel.proofs.Chain.{gives}
+use Rattle.kernel.proofs.Along.{Asked, start, asks, next, gave, hands, denied, a-field, needed, must, ends}
 use Rattle.records.specs.declared.Freq.{Freq}
 use Rattle.asc.specs.Asc.{hertz}
 use Rattle.asc.proofs.rates.hertz_of.Statement.{statement}
@@ -27,13 +26,11 @@ hertz-of-spec =
     returns-2 : tie.Need-returns-2
     returns-2 c =
         let f = c .before .before .before in
-        let a = rate (f .before .before) in
-        let g = f .hz .given .1 in
-        ends (gave a g) (fails _ 24 (lt-leb 1 (f .hz .given .0 .0) (omega arith)) (took _ 24 (came a g) .moved)
-        (c .refused-at .ensures))
+        denied (rate (f .before .before)) (f .hz .given .1) a-field must (lt-leb 1 (f .hz .given .0 .0) (omega arith))
+        (c .refused-at .ensures)
 
     returns-3 : tie.Need-returns-3
     returns-3 c =
         let f = c .before .before in
-        ends (needed (gave (rate (f .before .before)) (f .hz .given .1)) _ _ _ refl
+        ends (needed (gave (rate (f .before .before)) (f .hz .given .1)) must
         (le-leb 1 (f .hz .given .0 .0) (omega arith))) gives

@@ -1,12 +1,11 @@
 -- `asc::signalling::extension_type` meets its contract.
-use mathlib.Core.Path.{_≡_, refl}
-use Prim.Native.Nat.{ℕ}
+use mathlib.Core.Path.{_≡_}
 use native.Mathlib.Omega.{arith}
 use borrow.Author.Needs.{needs}
 use borrow.Author.Tests.{eq-eqb, ne-eqb}
 use Rattle.kernel.specs.Answer.{toldFetched}
 use Rattle.kernel.proofs.Chain.{gives, refuses}
-use Rattle.kernel.proofs.Along.{Along, Asked, start, asks, next, came, gave, hands, when, unless, last, ends}
+use Rattle.kernel.proofs.Along.{Along, Asked, start, asks, next, came, gave, hands, when, unless, either, last, ends}
 use Rattle.records.specs.declared.Form.{Form}
 use Rattle.asc.specs.Asc.{extensionType}
 use Rattle.asc.proofs.Types.{five-bits}
@@ -31,17 +30,17 @@ extension-type-spec =
     typed c = gave (type (c .before .before)) (c .number .given .1)
 
     not-5 : (c : tie.After-number) → (c .number .given .0 .0 ≡ 5 → ⊥) → Along Form
-    not-5 c h = unless (typed c) _ _ refl (ne-eqb _ 5 h)
+    not-5 c h = unless (typed c) either (ne-eqb _ 5 h)
 
     returns-2 : tie.Need-returns-2
     returns-2 c =
         let n = c .before .before .before in
-        last (when (typed n) _ _ refl (eq-eqb (n .number .given .0 .0) 5 (omega arith))) (c .sbr-extension .ensures)
+        last (when (typed n) either (eq-eqb (n .number .given .0 .0) 5 (omega arith))) (c .sbr-extension .ensures)
 
     returns-3 : tie.Need-returns-3
     returns-3 c =
         let n = c .before .before .before in
-        ends (when (not-5 n (λ e. omega arith)) _ _ refl (eq-eqb (n .number .given .0 .0) 22 (omega arith)))
+        ends (when (not-5 n (λ e. omega arith)) either (eq-eqb (n .number .given .0 .0) 22 (omega arith)))
         (refuses (five-bits _ (came (type (n .before .before)) (n .number .given .1)) (omega arith))
         (c .refused-at .ensures))
 
@@ -49,4 +48,4 @@ extension-type-spec =
     returns-4 c =
         let n = c .before .before in
         let other : n .number .given .0 .0 ≡ 22 → ⊥ = λ e. omega arith in
-        ends (unless (not-5 n (λ e. omega arith)) _ _ refl (ne-eqb _ 22 other)) gives
+        ends (unless (not-5 n (λ e. omega arith)) either (ne-eqb _ 22 other)) gives

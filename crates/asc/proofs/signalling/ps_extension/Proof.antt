@@ -1,11 +1,10 @@
 -- `asc::signalling::ps_extension` meets its contract.
-use mathlib.Core.Path.{refl}
 use native.Mathlib.Omega.{arith}
 use borrow.Author.Needs.{needs}
 use borrow.Author.Tests.{eq-eqb, ne-eqb}
 use Rattle.kernel.specs.Answer.{toldFetched}
 use Rattle.kernel.proofs.Chain.{gives}
-use Rattle.kernel.proofs.Along.{Along, Asked, start, asks, next, gave, hands, when, unless, ends}
+use Rattle.kernel.proofs.Along.{Along, Asked, start, asks, next, gave, hands, when, unless, either, ends}
 use Rattle.records.specs.declared.Form.{Form}
 use Rattle.asc.specs.Asc.{psExtension}
 use Rattle.asc.proofs.signalling.ps_extension.Statement.{statement}
@@ -21,7 +20,7 @@ ps-extension-spec =
     (λ c. search needs) (λ c. search needs) (λ c κs. search needs)
     (λ c. hands (flag (c .before .before .before)) (c .before .enum-told2 .given .1) (c .why2 .ensures))
     (λ c. ends (gave (flag (c .before .before .before)) (c .before .flag .given .1)) gives)
-    (λ c. ends (unless (synced (c .before .before)) _ _ refl (ne-eqb _ 1352 (c .if1 .left))) gives))
+    (λ c. ends (unless (synced (c .before .before)) either (ne-eqb _ 1352 (c .if1 .left))) gives))
   where
     sync : tie.After-take-at → Asked toldFetched Form
     sync c =
@@ -34,5 +33,5 @@ ps-extension-spec =
     flag : tie.After-take-at2 → Asked toldFetched Form
     flag c =
         let i = c .before in
-        asks (when (synced (i .before .before)) _ _ refl (eq-eqb _ 1352 (i .if1 .taken))) next (c .take-at2 .result)
+        asks (when (synced (i .before .before)) either (eq-eqb _ 1352 (i .if1 .taken))) next (c .take-at2 .result)
         (c .take-at2 .ensures)

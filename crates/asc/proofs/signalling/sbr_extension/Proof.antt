@@ -1,10 +1,9 @@
 -- `asc::signalling::sbr_extension` meets its contract.
-use mathlib.Core.Path.{refl}
 use borrow.Author.Needs.{needs}
 use borrow.Author.Tests.{eq-eqb, ne-eqb}
 use Rattle.kernel.specs.Answer.{toldFetched}
 use Rattle.kernel.proofs.Chain.{gives}
-use Rattle.kernel.proofs.Along.{Along, Asked, start, asks, next, gave, stops, hands, when, unless, last, ends}
+use Rattle.kernel.proofs.Along.{Along, Asked, start, asks, next, gave, stops, hands, when, unless, either, last, ends}
 use Rattle.records.specs.declared.Form.{Form}
 use Rattle.asc.specs.Asc.{sbrExtension}
 use Rattle.asc.specs.Answer.{toldRated}
@@ -20,7 +19,7 @@ sbr-extension-spec =
     (λ c κs. flagged (c .before .before) .stands) (λ c. search needs) (λ c. search needs)
     (λ c. stops (rate (c .before .before .before)) (c .before .x .given .1))
     (λ c κs. rated (c .before) .stands) (λ c. last (rated (c .before .before)) (c .ps-tail .ensures))
-    (λ c. ends (unless (flagged (c .before .before)) _ _ refl (ne-eqb _ 1 (c .if1 .left))) gives))
+    (λ c. ends (unless (flagged (c .before .before)) either (ne-eqb _ 1 (c .if1 .left))) gives))
   where
     flag : tie.After-take-at → Asked toldFetched Form
     flag c = asks (start _ (sbrExtension _) (c .before .before .pre)) next (c .take-at .result) (c .take-at .ensures)
@@ -31,7 +30,7 @@ sbr-extension-spec =
     rate : tie.After-frequency-of → Asked toldRated Form
     rate c =
         let i = c .before in
-        asks (when (flagged (i .before .before)) _ _ refl (eq-eqb _ 1 (i .if1 .taken))) next (c .frequency-of .result)
+        asks (when (flagged (i .before .before)) either (eq-eqb _ 1 (i .if1 .taken))) next (c .frequency-of .result)
         (c .frequency-of .ensures)
 
     rated : tie.After-r → Along Form

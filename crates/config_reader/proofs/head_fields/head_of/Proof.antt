@@ -1,11 +1,10 @@
 -- `config_reader::head_fields::head_of` meets its contract.
-use mathlib.Core.Path.{refl}
 use native.Mathlib.Omega.{arith}
 use borrow.Author.Needs.{needs}
 use borrow.Author.Tests.{eq-eqb, ne-eqb}
 use Rattle.kernel.specs.Answer.{toldFetched}
-use Rattle.kernel.proofs.Chain.{gives, fails, took}
-use Rattle.kernel.proofs.Along.{Along, Asked, start, asks, next, came, gave, hands, needed, ends}
+use Rattle.kernel.proofs.Chain.{gives, took}
+use Rattle.kernel.proofs.Along.{Along, Asked, start, asks, next, came, gave, hands, denied, a-field, needed, must, ends}
 use Rattle.config.specs.declared.Head.{Head}
 use Rattle.config.specs.Mux.{muxHead}
 use Rattle.config_reader.proofs.head_fields.head_of.Statement.{statement}
@@ -59,7 +58,7 @@ head-of-spec =
     together : tie.Else1 → Along Head
     together c =
         let e = c .before .before in
-        needed (gave (framing (e .before .before)) (e .e .given .1)) _ _ _ refl (eq-eqb _ 1 (c .if1 .left))
+        needed (gave (framing (e .before .before)) (e .e .given .1)) must (eq-eqb _ 1 (c .if1 .left))
 
     subframes : tie.After-fetch3 → Asked toldFetched Head
     subframes c = asks (together (c .before)) next (c .fetch3 .result) (c .fetch3 .ensures)
@@ -72,12 +71,8 @@ head-of-spec =
     returns-5 : tie.Need-returns-5
     returns-5 c =
         let e = c .before .before .before in
-        let a = framing (e .before .before) in
-        let g = e .e .given .1 in (
-          ends (gave a g) (fails _ 1 (ne-eqb _ 1 (c .before .if1 .taken)) (took _ 1 (came a g) .moved)
-              (c .refused-at .ensures)),
-          tt,
-        )
+        let test = ne-eqb _ 1 (c .before .if1 .taken) in
+        (denied (framing (e .before .before)) (e .e .given .1) a-field must test (c .refused-at .ensures), tt)
 
     returns-8 : tie.Need-returns-8
     returns-8 c =

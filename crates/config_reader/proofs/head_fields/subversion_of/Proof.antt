@@ -1,11 +1,10 @@
 -- `config_reader::head_fields::subversion_of` meets its contract.
-use mathlib.Core.Path.{refl}
 use Prim.Native.Nat.{ℕ}
 use borrow.Author.Needs.{needs}
 use borrow.Author.Tests.{eq-eqb, ne-eqb}
 use Rattle.kernel.specs.Answer.{toldFetched}
-use Rattle.kernel.proofs.Chain.{gives, fails, took}
-use Rattle.kernel.proofs.Along.{Asked, start, asks, next, came, gave, returned, needed, ends}
+use Rattle.kernel.proofs.Chain.{gives}
+use Rattle.kernel.proofs.Along.{Asked, start, asks, next, gave, returned, denied, a-field, needed, must, ends}
 use Rattle.config.specs.Mux.{muxVersionA}
 use Rattle.config_reader.proofs.head_fields.subversion_of.Statement.{statement}
 use Rattle.config_reader.proofs.head_fields.subversion_of.Tie as tie
@@ -26,12 +25,10 @@ subversion-of-spec =
     returns-2 : tie.Need-returns-2
     returns-2 c =
         let f = c .before .before in
-        ends (needed (gave (flag (f .before .before)) (f .one .given .1)) _ _ _ refl (eq-eqb _ 0 (c .if1 .taken))) gives
+        ends (needed (gave (flag (f .before .before)) (f .one .given .1)) must (eq-eqb _ 0 (c .if1 .taken))) gives
 
     returns-3 : tie.Need-returns-3
     returns-3 c =
         let f = c .before .before .before in
-        let a = flag (f .before .before) in
-        let g = f .one .given .1 in
-        ends (gave a g) (fails _ 1 (ne-eqb _ 0 (c .before .if1 .left)) (took _ 1 (came a g) .moved)
-        (c .refused-at .ensures))
+        denied (flag (f .before .before)) (f .one .given .1) a-field must (ne-eqb _ 0 (c .before .if1 .left))
+        (c .refused-at .ensures)

@@ -1,11 +1,10 @@
 -- `config_reader::layers::num_layer` meets its contract.
-use mathlib.Core.Path.{refl}
 use Prim.Native.Nat.{ℕ}
 use borrow.Author.Needs.{needs}
 use borrow.Author.Tests.{le-leb, lt-leb}
 use Rattle.kernel.specs.Answer.{toldFetched}
-use Rattle.kernel.proofs.Chain.{gives, fails, took}
-use Rattle.kernel.proofs.Along.{Asked, start, asks, next, came, gave, returned, needed, ends}
+use Rattle.kernel.proofs.Chain.{gives}
+use Rattle.kernel.proofs.Along.{Asked, start, asks, next, gave, returned, denied, a-field, needed, must, ends}
 use Rattle.config.specs.Mux.{numLayer}
 use Rattle.config_reader.proofs.layers.num_layer.Statement.{statement}
 use Rattle.config_reader.proofs.layers.num_layer.Tie as tie
@@ -29,13 +28,11 @@ num-layer-spec =
     returns-2 : tie.Need-returns-2
     returns-2 c =
         let f = c .before .before in
-        ends (needed (gave (three (f .before .before)) (f .three .given .1)) _ _ _ refl (le-leb _ 16 (c .if1 .taken)))
+        ends (needed (gave (three (f .before .before)) (f .three .given .1)) must (le-leb _ 16 (c .if1 .taken)))
         gives
 
     returns-3 : tie.Need-returns-3
     returns-3 c =
         let f = c .before .before .before in
-        let a = three (f .before .before) in
-        let g = f .three .given .1 in
-        ends (gave a g) (fails _ 3 (lt-leb _ 16 (c .before .if1 .left)) (took _ 3 (came a g) .moved)
-        (c .refused-at .ensures))
+        denied (three (f .before .before)) (f .three .given .1) a-field must (lt-leb _ 16 (c .before .if1 .left))
+        (c .refused-at .ensures)

@@ -45,7 +45,7 @@ returns c =
     let w = c .before in
     let d = w .before in
     let t = d .before .before .before in
-    refusing _ _ _ _ _ _ _ _ (c .refused-placed .ensures .0) (c .refused-placed .ensures .1)
+    refusing _ _ _ _ _ _ _ _ (c .refused-placed .ensures)
     (program-stop (t .before .before .loop .inv) (omega arith) (begins t)
     (handed (d .before .before .num-layer .ensures) (d .enum-told .given .1) (w .why .ensures)))
 
@@ -72,7 +72,7 @@ returns-2 : tie.Need-returns-2 Inv-loop μ-loop
 returns-2 c =
     let x = c .before .before in
     let l = x .before .before .before .before .before in
-    refusing _ _ _ _ _ _ _ _ (c .refused-placed2 .ensures .0) (c .refused-placed2 .ensures .1)
+    refusing _ _ _ _ _ _ _ _ (c .refused-placed2 .ensures)
     (layer-stop (l .loop .inv) (omega arith)
     (got toldStreamed (x .before .before .layer-of .ensures) (x .x .given .1)))
 

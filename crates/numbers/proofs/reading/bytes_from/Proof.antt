@@ -5,7 +5,7 @@ use lib.Pow.{pow-pos}
 use borrow.Author.Needs.{needs}
 use Rattle.kernel.specs.Answer.{toldFetched}
 use Rattle.kernel.proofs.Chain.{gives, took}
-use Rattle.kernel.proofs.Along.{Asked, asks, next, came, gave, returned, resumed, remains, all-remains, that-is, ends}
+use Rattle.kernel.proofs.Along.{Asked, resumed, remains, all-remains, asks, next, came, gave, returned, that-is, ends}
 use Rattle.numbers.specs.Values.{bytesFrom}
 use Rattle.kernel.specs.declared.Window.the-variants.{Open}
 use Rattle.numbers.proofs.Turns.{Adding, more-small, more-fits, bytes-more, bytes-none}

@@ -1,13 +1,12 @@
 -- `numbers::reading::groups_of` meets its contract.
-use mathlib.Core.Path.{refl}
 use Prim.Native.Nat.{ℕ, _+_, _*_, _^_, _<_}
 use native.Mathlib.Omega.{arith}
 use borrow.Author.Needs.{needs}
 use borrow.Author.Tests.{eq-eqb, ne-eqb, not-true, not-false}
 use Rattle.kernel.specs.Answer.{toldFetched}
-use Rattle.kernel.proofs.Chain.{gives, fails, took}
-use Rattle.kernel.proofs.Along.{Along, Asked, asks, next, came, gave, returned, needed, when, unless, ends}
-use Rattle.kernel.proofs.Along.{resumed, remains, all-remains, that-is}
+use Rattle.kernel.proofs.Chain.{gives, took}
+use Rattle.kernel.proofs.Along.{Along, Asked, resumed, remains, all-remains, asks, next, came, gave, returned, denied}
+use Rattle.kernel.proofs.Along.{a-field, that-is, when, unless, either, needed, must, ends}
 use Rattle.numbers.specs.Values.{groupsFrom}
 use Rattle.kernel.specs.declared.Window.the-variants.{Open}
 use Rattle.numbers.proofs.Turns.{Adding, more-small, more-fits, groups-more, groups-none}
@@ -30,7 +29,7 @@ bit c =
 abbrev may : tie.Else1 Inv-loop μ-loop → Along ℕ
 may c =
     let a = c .before .before in
-    needed (gave (bit (a .before .before)) (a .a .given .1)) _ _ _ refl (not-false _ (c .if1 .left))
+    needed (gave (bit (a .before .before)) (a .a .given .1)) must (not-false _ (c .if1 .left))
 
 abbrev byte : tie.After-fetch2 Inv-loop μ-loop → Asked toldFetched ℕ
 byte c = asks (may (c .before)) next (c .fetch2 .result) (c .fetch2 .ensures)
@@ -55,16 +54,14 @@ loop-again c =
     record {
       few = omega arith;
       small = more-small (l .inv) (omega arith) (narrow b);
-      remains = remains (when (grown b) _ _ refl (eq-eqb _ 1 (c .if2 .left)));
+      remains = remains (when (grown b) either (eq-eqb _ 1 (c .if2 .left)));
     }
 
 returns-2 : tie.Need-returns-2 Inv-loop μ-loop
 returns-2 c =
     let a = c .before .before .before in
-    let g = a .a .given .1 in
-    let f = bit (a .before .before) in
-    ends (gave f g) (fails _ 1 (not-true _ (c .before .if1 .taken)) (took Open 1 (came f g) .moved)
-    (c .refused-at .ensures))
+    denied (bit (a .before .before)) (a .a .given .1) a-field must (not-true _ (c .before .if1 .taken))
+    (c .refused-at .ensures)
 
 returns-5 : tie.Need-returns-5 Inv-loop μ-loop
 returns-5 c =
@@ -81,5 +78,5 @@ groups-of-spec =
     (λ c κs. omega (arith, may c .stands)) (λ c. search needs) (λ c. search needs)
     (λ c. returned (byte (c .before .before)) (c .enum-told2 .given .1))
     (λ c. omega (arith, fits (c .before))) (λ c. omega (arith, fits (c .before)))
-    (λ c. ends (unless (grown (c .before .before)) _ _ refl (ne-eqb _ 1 (c .if2 .taken))) gives)
+    (λ c. ends (unless (grown (c .before .before)) either (ne-eqb _ 1 (c .if2 .taken))) gives)
     (λ c. omega arith) (λ c. omega arith) loop-again returns-5)
