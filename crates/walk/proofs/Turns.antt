@@ -3,43 +3,29 @@ use mathlib.Core.Path.{_≡_}
 use mathlib.Core.List.{List, [], _∷_, _++_}
 use Prim.Native.Nat.{ℕ, zero, suc, _+_, _*_, _-_, _<_, _≤_}
 use native.Mathlib.Omega.{arith}
-use lib.ListN.{length, getD, take, drop, length-take, drop-of-length-le}
-use borrow.Author.Tests.{eq-eqb, ne-eqb}
+use lib.ListN.{length, getD, set, take, drop, replicate, length-take, drop-of-length-le}
+use lib.Seq.{drop-cons, drop-drop, drop-set-lt, getD-take, take-suc-set}
+use lib.Dec.{eqb}
 use Rattle.kernel.specs.declared.Window.the-variants.{Open}
 use Rattle.kernel.specs.declared.Refusal.{Refusal}
-use Rattle.kernel.specs.Reading.{field, run}
+use Rattle.kernel.specs.Reading.{give, field, choose, _>>=_, run}
 use Rattle.kernel.specs.Answer.{Told, value, refusal}
-use Rattle.kernel.proofs.Lists.{next-one}
-use Rattle.kernel.proofs.Chain.{Comes, gave-told, gives, on, off, yes-way, no-way, itself, goes-on}
+use Rattle.kernel.proofs.Lists.{drop-replicate}
+use Rattle.kernel.proofs.Chain.{Comes, gave-told, gives, on, off, itself, goes-on}
 use Rattle.kernel.proofs.Kept.{Any, Kept, gives as keeps, either, so as keeps-so, a-field, on as keeps-on, run-kept}
 use Rattle.element.specs.Mux.{slotFrom, muxSlotLengthBytes, payloadLengthInfo}
 use Rattle.walk.specs.Plan.{slotBy, slotsBy}
 
-module _ {s : List ℕ} {at k : ℕ} where
-  pub slot-done : (n v : ℕ) → n ≡ 0 → Comes s (slotFrom n v) at k (value v at k)
-  unfolding slotFrom
-  slot-done n v h = rw h gives
+-- what is left of a slot's length bytes before a turn, and behind the last
+pub slot-more : (n v : ℕ) → 0 < n
+    → slotFrom n v ≡ (field Open 8 >>= λ b. choose (eqb b 255) (slotFrom (n - 1) (v + 255)) (give (v + b)))
+unfolding slotFrom
+slot-more zero v h = absurd (omega arith)
+slot-more (suc n) v h = let p : suc n - 1 ≡ n = omega arith in rw p
 
-  pub slot-stop : (n v : ℕ) {x : Refusal} → 0 < n → Comes s (field Open 8) at k (refusal x)
-      → Comes s (slotFrom n v) at k (refusal x)
-  unfolding slotFrom
-  slot-stop zero v h e = absurd (omega arith)
-  slot-stop (suc n) v h e = off _ e
-
-  pub slot-last : (n v : ℕ) {b at′ k′ : ℕ} → 0 < n → Comes s (field Open 8) at k (value b at′ k′) → (b ≡ 255 → ⊥)
-      → Comes s (slotFrom n v) at k (value (v + b) at′ k′)
-  unfolding slotFrom
-  slot-last zero v h e u = absurd (omega arith)
-  slot-last (suc n) v {b} h e u = on _ e (no-way _ (ne-eqb b 255 u) gives)
-
-  pub slot-turn : (n v : ℕ) {b at′ k′ : ℕ} {o : Told ℕ} → 0 < n → Comes s (field Open 8) at k (value b at′ k′)
-      → b ≡ 255 → Comes s (slotFrom n v) at k o
-      → Comes s (slotFrom (n - 1) (v + 255)) at′ k′ o
-  unfolding slotFrom
-  slot-turn zero v h e u q = absurd (omega arith)
-  slot-turn (suc n) v {b} h e u q =
-      let p : suc n - 1 ≡ n = omega arith in
-      rw p (goes-on (slotFrom n _) _ _ (on _ e (yes-way _ (eq-eqb b 255 u) itself)) q)
+pub slot-none : (n v : ℕ) → n ≡ 0 → slotFrom n v ≡ give v
+unfolding slotFrom
+slot-none n v h = rw h
 
 -- the bytes of a slot are fewer than those of 8,192 bytes of 255
 slot-small : (n v : ℕ) → Kept Any (λ (x : ℕ). x ≤ v + 255 * n) (slotFrom n v)

@@ -25,7 +25,7 @@ bit c =
     asks (that-is (resumed (l .inv .remains)) (groups-more (l .left) (l .v) (omega arith))) next (c .fetch .result)
     (c .fetch .ensures)
 
--- another group may follow
+-- the continue bit may stand there
 abbrev may : tie.Else1 Inv-loop μ-loop → Along ℕ
 may c =
     let a = c .before .before in

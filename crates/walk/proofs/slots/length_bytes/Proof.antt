@@ -1,82 +1,58 @@
 -- `walk::slots::length_bytes` meets its contract.
-use mathlib.Core.Path.{ap, _∙_}
-use Prim.Native.Nat.{_+_, _*_, _≤_}
+use Prim.Native.Nat.{ℕ, _+_, _*_, _≤_}
 use native.Mathlib.Omega.{arith}
-use denote.Ref.{now}
 use borrow.Author.Needs.{needs}
-use Rattle.kernel.specs.Answer.{told, toldFetched}
-use Rattle.kernel.specs.Reading.{run, field, Stands}
-use Rattle.kernel.proofs.Chain.{Comes, got, itself, same-end, steady, took}
+use borrow.Author.Tests.{eq-eqb, ne-eqb}
+use Rattle.kernel.specs.Answer.{toldFetched}
+use Rattle.kernel.proofs.Chain.{gives, took}
+use Rattle.kernel.proofs.Along.{Along, Asked, Remains, resumed, remains, all-remains, asks, next, came, gave, returned}
+use Rattle.kernel.proofs.Along.{that-is, when, unless, either, ends}
 use Rattle.element.specs.Mux.{slotFrom, muxSlotLengthBytes}
-use Rattle.kernel.specs.declared.Window.the-variants.{Open}
-use Rattle.kernel.specs.declared.Fetched.the-variants.{Value}
-use Rattle.walk.proofs.Turns.{slot-done, slot-stop, slot-last, slot-turn}
+use Rattle.walk.proofs.Turns.{slot-more, slot-none}
 use Rattle.walk.proofs.slots.length_bytes.Statement.{statement}
 use Rattle.walk.proofs.slots.length_bytes.Tie as tie
 
 abbrev Inv-loop : tie.InvT-loop
 Inv-loop el cur₀ v₀ left₀ cur v left =
-    (v + 255 * left ≤ 2088960) × Stands el (cur .at) (cur .fields)
-    × Comes el (slotFrom left v) (cur .at) (cur .fields) (told (run el muxSlotLengthBytes (cur₀ .at) (cur₀ .fields)))
+    (v + 255 * left ≤ 2088960)
+    × Remains el muxSlotLengthBytes (cur₀ .at) (cur₀ .fields) (slotFrom left v) (cur .at) (cur .fields)
 
 abbrev μ-loop : tie.MeasureT-loop
 μ-loop el cur₀ v₀ left₀ cur v left = left
 
--- the byte that a turn read
-ran : (f : tie.After-a Inv-loop μ-loop) → let l = f .before .before .before .before in
-    Comes (now (l .before .before .args .el)) (field Open 8) (l .loop .cur .at) (l .loop .cur .fields)
-    (toldFetched (Value (f .a .given .0 .0) (f .a .given .0 .1 .0)))
-ran f = got toldFetched (f .before .before .fetch .ensures) (f .a .given .1)
+abbrev byte : tie.After-fetch Inv-loop μ-loop → Asked toldFetched ℕ
+byte c =
+    let l = c .before .before .loop in
+    asks (that-is (resumed (l .inv .1)) (slot-more (l .left) (l .v) (omega arith))) next (c .fetch .result)
+    (c .fetch .ensures)
+
+abbrev grown : tie.After-a Inv-loop μ-loop → Along ℕ
+grown c = gave (byte (c .before .before)) (c .a .given .1)
 
 loop-holds : tie.Need-loop-holds Inv-loop μ-loop
 unfolding muxSlotLengthBytes
-loop-holds c = (omega arith, omega arith, itself)
-
-fetch-requires : tie.Need-fetch-requires Inv-loop μ-loop
-fetch-requires c κs = omega arith
-
-returns : tie.Need-returns Inv-loop μ-loop
-returns c =
-    let l = c .before .before .before .before in
-    let q = c .enum-told .given .1 in
-    ap toldFetched q ∙ same-end (slot-stop (l .loop .left) (l .loop .v) (omega arith)
-    (got toldFetched (c .before .before .fetch .ensures) q)) (l .loop .inv .2)
+loop-holds c = (omega arith, all-remains (omega arith))
 
 add-t11 : tie.Need-add-t11 Inv-loop μ-loop
-add-t11 c = omega (arith, took _ 8 (ran (c .before .before)) .narrow)
-
-returns-2 : tie.Need-returns-2 Inv-loop μ-loop
-returns-2 c =
+add-t11 c =
     let f = c .before .before in
-    let l = f .before .before .before .before in
-    same-end (slot-last (l .loop .left) (l .loop .v) (omega arith) (ran f) (c .if1 .taken)) (l .loop .inv .2)
-
-add-v : tie.Need-add-v Inv-loop μ-loop
-add-v c = omega arith
-
-sub-left : tie.Need-sub-left Inv-loop μ-loop
-sub-left c = omega arith
-
-loop-less : tie.Need-loop-less Inv-loop μ-loop
-loop-less c = omega arith
+    omega (arith, took _ 8 (came (byte (f .before .before)) (f .a .given .1)) .narrow)
 
 loop-again : tie.Need-loop-again Inv-loop μ-loop
 loop-again c =
     let f = c .before .before in
-    let l = f .before .before .before .before in (
-      omega arith,
-      steady (ran f) (l .loop .inv .1),
-      slot-turn (l .loop .left) (l .loop .v) (omega arith) (ran f)
-          (omega arith) (l .loop .inv .2),
-    )
+    let full = eq-eqb (f .a .given .0 .0) 255 (omega arith) in
+    (omega arith, remains (when (grown f) either full))
 
 returns-3 : tie.Need-returns-3 Inv-loop μ-loop
 returns-3 c =
-    let l = c .before in
-    same-end (slot-done (l .loop .left) (l .loop .v) (omega arith)) (l .loop .inv .2)
+    let l = c .before .loop in
+    ends (that-is (resumed (l .inv .1)) (slot-none (l .left) (l .v) (omega arith))) gives
 
 pub length-bytes-spec : {M : Type 1} → statement M
 length-bytes-spec =
     tie.close
-    (tie.spec Inv-loop μ-loop loop-holds fetch-requires (λ c. search needs) (λ c. search needs) returns add-t11
-    returns-2 add-v sub-left loop-less loop-again returns-3)
+    (tie.spec Inv-loop μ-loop loop-holds (λ c κs. omega arith) (λ c. search needs) (λ c. search needs)
+    (λ c. returned (byte (c .before .before)) (c .enum-told .given .1)) add-t11
+    (λ c. ends (unless (grown (c .before .before)) either (ne-eqb _ 255 (c .if1 .taken))) gives)
+    (λ c. omega arith) (λ c. omega arith) (λ c. omega arith) loop-again returns-3)
