@@ -267,7 +267,8 @@ module _ {s : List ℕ} (held : Held) where
           → FinishPromise false s (p .plan) at n map v map′ → {r : PreparedReply} → r ≡ unsent v p
           → Leaves p (read s (audioMuxElement held)) map table r map′ table
       held-leaves ok {v} {map′} f w =
-          let b = behind-is s (held .config) at n false (held-valid held is ok) (p .plan) (held-plan held is ok) map f in
+          let plan = held-plan held is ok in
+          let b = behind-is s (held .config) at n false (held-valid held is ok) (p .plan) plan map f in
           let l : Leaves p (read s (audioMuxElement held)) map table (unsent v p) map′ table =
           rw (flag-held ok, b .0, b .1)
           (behind-ends s (held .config) at n
