@@ -7,10 +7,11 @@ use native.Mathlib.Nat.{zero-add}
 use native.Mathlib.Omega.{arith}
 use lib.Dec.{leb}
 use lib.ListN.{length, length-append}
-use borrow.Author.Tests.{le-leb, leb-true, leb-false}
+use borrow.Author.Tests.{le-leb, lt-leb, leb-true, leb-false}
 use Rattle.capture.specs.Frames.{Point, Seen, Next, frame, none, behind, thenFrames, nextOf, framesFrom, framesOf}
 use Rattle.capture.specs.Frames.{behindAll}
-use Rattle.capture.specs.Blocks.{textOf, afterAll, fitting, blockOf, isLast, blocks}
+use Rattle.capture.specs.Blocks.{Report, textOf, afterAll, fitting, blockFrames, blockText, blockEnd, blockState}
+use Rattle.capture.specs.Blocks.{isLast, blocks}
 use Rattle.kernel.specs.Lists.{Stored}
 use Rattle.kernel.proofs.Lists.{ToStore, store-all, store-on, stored-none}
 use Rattle.capture.proofs.Frames.{no-frames, frames-on, sittings, few-frames, frames-by, further}
@@ -19,68 +20,71 @@ none-if-short : (ms : List Seen) → length ms ≤ 0 → ms ≡ []
 none-if-short [] h = refl
 none-if-short (m ∷ ms) h = absurd (omega arith)
 
-module _ {S : Type 0} (text : S → Seen → List ℕ) (after : S → Seen → S) where
+behind-append : (c : Point) (ms ns : List Seen) → behindAll c (ms ++ ns) ≡ behindAll (behindAll c ms) ns
+unfolding behindAll
+behind-append c [] ns = refl
+behind-append c (m ∷ ms) ns = behind-append (behind m) ms ns
+
+module _ {S : Type 0} (w : Report S) where
   text-append : (x : S) (ms ns : List Seen)
-      → textOf text after x (ms ++ ns) ≡ textOf text after x ms ++ textOf text after (afterAll text after x ms) ns
+      → textOf w x (ms ++ ns) ≡ textOf w x ms ++ textOf w (afterAll w x ms) ns
   unfolding textOf afterAll
   text-append x [] ns = refl
-  text-append x (m ∷ ms) ns = rw (text-append (after x m) ms ns) (sym (append-assoc (text x m) _ _))
+  text-append x (m ∷ ms) ns = rw (text-append (w .after x m) ms ns) (sym (append-assoc (w .text x m) _ _))
 
-  no-text : (x : S) (ms : List Seen) → length ms ≤ 0 → textOf text after x ms ≡ []
+  no-text : (x : S) (ms : List Seen) → length ms ≤ 0 → textOf w x ms ≡ []
   unfolding textOf
   no-text x [] h = refl
   no-text x (m ∷ ms) h = absurd (omega arith)
 
-  some-frame : (x : S) (ms : List Seen) → 1 ≤ length (textOf text after x ms) → 1 ≤ length ms
+  some-frame : (x : S) (ms : List Seen) → 1 ≤ length (textOf w x ms) → 1 ≤ length ms
   unfolding textOf
   some-frame x [] h = absurd (omega arith)
   some-frame x (m ∷ ms) h = omega arith
 
-  module _ (most size : ℕ) where
+  module _ (size : ℕ) where
     -- a frame is laid where there is room for the longest text,
-    pub fits : (x : S) (used : ℕ) (m : Seen) (ms : List Seen) → leb (used + most) size ≡ true
-        → fitting text after most size x used (m ∷ ms)
-        ≡ m ∷ fitting text after most size (after x m) (used + length (text x m)) ms
+    fits : (x : S) (used : ℕ) (m : Seen) (ms : List Seen) → leb (used + w .most) size ≡ true
+        → fitting w size x used (m ∷ ms) ≡ m ∷ fitting w size (w .after x m) (used + length (w .text x m)) ms
     unfolding fitting
     fits x used m ms e = rw e
 
     -- and none where there is not
-    pub full : (x : S) (used : ℕ) (ms : List Seen) → leb (used + most) size ≡ false
-        → fitting text after most size x used ms ≡ []
+    full : (x : S) (used : ℕ) (ms : List Seen) → leb (used + w .most) size ≡ false → fitting w size x used ms ≡ []
     unfolding fitting
     full x used [] e = refl
     full x used (m ∷ ms) e = rw e
 
-    pub fits-none : (x : S) (used : ℕ) → fitting text after most size x used [] ≡ []
+    fits-none : (x : S) (used : ℕ) → fitting w size x used [] ≡ []
     unfolding fitting
     fits-none x used = refl
 
     -- where a block has room for the longest text it takes a frame of those that are left
-    fewer : (x : S) (ms : List Seen) (n k : ℕ) → most ≤ size
-        → length ms ≡ length (fitting text after most size x 0 ms) + n → length ms ≤ suc k → n ≤ k
+    fewer : (x : S) (ms : List Seen) (n k : ℕ) → w .most ≤ size
+        → length ms ≡ length (fitting w size x 0 ms) + n → length ms ≤ suc k → n ≤ k
     unfolding fitting
     fewer x [] n k h e l = omega arith
     fewer x (m ∷ ms) n k h e l =
-        let t : leb (0 + most) size ≡ true = rw zero-add (le-leb most size h) in
+        let t : leb (0 + w .most) size ≡ true = rw zero-add (le-leb (w .most) size h) in
         omega (arith, rw t at e)
 
     -- a block that ends with room for one text more has all of them
-    has-next : (x : S) (used : ℕ) (m : Seen) (ms rest : List Seen) (t : Bool) → leb (used + most) size ≡ t
-        → (used + length (text x m) + length (textOf text after (after x m) rest) + most ≤ size → rest ≡ ms)
-        → used + length (textOf text after x (cond t (m ∷ rest) [])) + most ≤ size → cond t (m ∷ rest) [] ≡ m ∷ ms
+    has-next : (x : S) (used : ℕ) (m : Seen) (ms rest : List Seen) (t : Bool) → leb (used + w .most) size ≡ t
+        → (used + length (w .text x m) + length (textOf w (w .after x m) rest) + w .most ≤ size → rest ≡ ms)
+        → used + length (textOf w x (cond t (m ∷ rest) [])) + w .most ≤ size → cond t (m ∷ rest) [] ≡ m ∷ ms
     unfolding textOf
     has-next x used m ms rest true e ih h =
-        let l = length-append (text x m) (textOf text after (after x m) rest) in
+        let l = length-append (w .text x m) (textOf w (w .after x m) rest) in
         ap (λ (z : List Seen). m ∷ z) (ih (omega (arith, l)))
-    has-next x used m ms rest false e ih h = absurd (omega (arith, leb-false (used + most) size e))
+    has-next x used m ms rest false e ih h = absurd (omega (arith, leb-false (used + w .most) size e))
 
     has-all : (x : S) (used : ℕ) (ms : List Seen)
-        → used + length (textOf text after x (fitting text after most size x used ms)) + most ≤ size
-        → fitting text after most size x used ms ≡ ms
+        → used + length (textOf w x (fitting w size x used ms)) + w .most ≤ size → fitting w size x used ms ≡ ms
     unfolding fitting
     has-all x used [] h = refl
     has-all x used (m ∷ ms) h =
-        has-next x used m ms _ (leb (used + most) size) refl (has-all (after x m) (used + length (text x m)) ms) h
+        has-next x used m ms _ (leb (used + w .most) size) refl
+        (has-all (w .after x m) (used + length (w .text x m)) ms) h
 
     module _ (s : List ℕ) (room : ℕ) where
       -- the frames of a block are the first of those that are left
@@ -95,127 +99,131 @@ module _ {S : Type 0} (text : S → Seen → List ℕ) (after : S → Seen → S
       IsFirst : Point → List Seen → Type 0
       IsFirst c ms = ms ≡ framesFrom s room (length ms) c
 
-      firsts : (k : ℕ) (c : Point) (x : S) (used : ℕ)
-          → IsFirst c (fitting text after most size x used (framesFrom s room k c))
+      firsts : (k : ℕ) (c : Point) (x : S) (used : ℕ) → IsFirst c (fitting w size x used (framesFrom s room k c))
       unfolding fitting framesFrom IsFirst
       firsts =
-          frames-by s room (λ c ms. (x : S) (used : ℕ) → IsFirst c (fitting text after most size x used ms))
+          frames-by s room (λ c ms. (x : S) (used : ℕ) → IsFirst c (fitting w size x used ms))
           (λ c x used. refl) (λ c m ms e ih x used.
-          first-next c m e (leb (used + most) size) _ (ih (after x m) (used + length (text x m))))
+          first-next c m e (leb (used + w .most) size) _ (ih (w .after x m) (used + length (w .text x m))))
 
-      -- a block, and what is left behind it
-      pub block-then : (x : S) (c : Point) → let ms = blockOf text after most size x (framesOf s room c) in
-          framesOf s room c ≡ ms ++ framesOf s room (behindAll c ms)
-      unfolding IsFirst
-      block-then x c =
-          let b = blockOf text after most size x (framesOf s room c) in
-          subst (λ (ms : List Seen). framesOf s room c ≡ ms ++ framesOf s room (behindAll c ms))
-          (sym (firsts (length s) c x 0)) (sittings s room (length b) c)
+      module _ (x : S) (c : Point) where
+        -- a block, and what is left behind it
+        block-then : framesOf s room c ≡ blockFrames w size s room x c ++ framesOf s room (blockEnd w size s room x c)
+        unfolding IsFirst
+        block-then =
+            subst (λ (ms : List Seen). framesOf s room c ≡ ms ++ framesOf s room (behindAll c ms))
+            (sym (firsts (length s) c x 0)) (sittings s room (length (blockFrames w size s room x c)) c)
 
-      -- behind a full block the capture is come further
-      pub full-further : (x : S) (c : Point) → let ms = blockOf text after most size x (framesOf s room c) in
-          most ≤ size → size < length (textOf text after x ms) + most
-          → (c .at < behindAll c ms .at) × (behindAll c ms .at ≤ length s)
-      unfolding IsFirst
-      full-further x c h l =
-          let b = blockOf text after most size x (framesOf s room c) in
-          let n = some-frame x b (omega arith) in
-          subst (λ (ms : List Seen). 1 ≤ length ms → (c .at < behindAll c ms .at) × (behindAll c ms .at ≤ length s))
-          (sym (firsts (length s) c x 0)) (further s room (length b) c) n
+        -- it leads to where all frames lead
+        pub end-ahead : let d = blockEnd w size s room x c in
+            behindAll d (framesOf s room d) ≡ behindAll c (framesOf s room c)
+        end-ahead = sym (ap (behindAll c) block-then ∙ behind-append c (blockFrames w size s room x c) _)
 
-      pub last-has-all : (x : S) (c : Point) → let ms = blockOf text after most size x (framesOf s room c) in
-          isLast text after most size x ms ≡ true → ms ≡ framesOf s room c
-      last-has-all x c e =
-          has-all x 0 (framesOf s room c) (rw zero-add (leb-true _ size e))
+        -- behind a block that is not the last the capture is come further
+        pub further-on : w .most ≤ size → isLast w size s room x c ≡ false
+            → (c .at < blockEnd w size s room x c .at) × (blockEnd w size s room x c .at ≤ length s)
+        unfolding IsFirst
+        further-on h e =
+            let b = blockFrames w size s room x c in
+            let n = some-frame x b (omega (arith, leb-false (length (blockText w size s room x c) + w .most) size e)) in
+            subst (λ (ms : List Seen). 1 ≤ length ms → (c .at < behindAll c ms .at) × (behindAll c ms .at ≤ length s))
+            (sym (firsts (length s) c x 0)) (further s room (length b) c) n
 
-      pub none-behind-last : (x : S) (c : Point) → let ms = blockOf text after most size x (framesOf s room c) in
-          isLast text after most size x ms ≡ true → framesOf s room (behindAll c ms) ≡ []
-      none-behind-last x c e =
-          let b = blockOf text after most size x (framesOf s room c) in
-          let all = ap length (last-has-all x c e ∙ block-then x c) ∙ length-append b _ in
-          none-if-short _ (omega (arith, all))
+        last-has-all : isLast w size s room x c ≡ true → blockFrames w size s room x c ≡ framesOf s room c
+        last-has-all e = has-all x 0 (framesOf s room c) (rw zero-add (leb-true _ size e))
 
-      laid-next : (k : ℕ) (x : S) (c : Point) → let b = blockOf text after most size x (framesOf s room c) in
-          let y = afterAll text after x b in let d = behindAll c b in
-          (t : Bool) → isLast text after most size x b ≡ t
-          → blocks text after most size (framesOf s room) k y d ≡ textOf text after y (framesOf s room d)
-          → textOf text after x b ++ cond t [] (blocks text after most size (framesOf s room) k y d)
-          ≡ textOf text after x (framesOf s room c)
-      laid-next k x c true e ih = append-nil _ ∙ ap (textOf text after x) (last-has-all x c e)
-      laid-next k x c false e ih =
-          rw ih (sym (ap (textOf text after x) (block-then x c)
-          ∙ text-append x (blockOf text after most size x (framesOf s room c)) _))
+        pub last-end : isLast w size s room x c ≡ true
+            → blockEnd w size s room x c ≡ behindAll c (framesOf s room c)
+        last-end e = ap (behindAll c) (last-has-all e)
 
-      all-laid : (k : ℕ) (x : S) (c : Point) → most ≤ size → length (framesOf s room c) ≤ k
-          → blocks text after most size (framesOf s room) k x c ≡ textOf text after x (framesOf s room c)
+        pub none-behind-last : isLast w size s room x c ≡ true → framesOf s room (blockEnd w size s room x c) ≡ []
+        none-behind-last e =
+            let all = ap length (last-has-all e ∙ block-then) ∙ length-append (blockFrames w size s room x c) _ in
+            none-if-short _ (omega (arith, all))
+
+        laid-next : (k : ℕ) → let y = blockState w size s room x c in let d = blockEnd w size s room x c in
+            (t : Bool) → isLast w size s room x c ≡ t → blocks w size s room k y d ≡ textOf w y (framesOf s room d)
+            → blockText w size s room x c ++ cond t [] (blocks w size s room k y d) ≡ textOf w x (framesOf s room c)
+        laid-next k true e ih = append-nil _ ∙ ap (textOf w x) (last-has-all e)
+        laid-next k false e ih =
+            rw ih (sym (ap (textOf w x) block-then ∙ text-append x (blockFrames w size s room x c) _))
+
+      all-laid : (k : ℕ) (x : S) (c : Point) → w .most ≤ size → length (framesOf s room c) ≤ k
+          → blocks w size s room k x c ≡ textOf w x (framesOf s room c)
       unfolding blocks
       all-laid zero x c h l = sym (no-text x (framesOf s room c) l)
       all-laid (suc k) x c h l =
-          let b = blockOf text after most size x (framesOf s room c) in
-          let n = fewer x (framesOf s room c) (length (framesOf s room (behindAll c b))) k h
-          (ap length (block-then x c) ∙ length-append b _) l in
-          laid-next k x c (isLast text after most size x b) refl
-          (all-laid k (afterAll text after x b) (behindAll c b) h n)
+          let d = blockEnd w size s room x c in
+          let n = fewer x (framesOf s room c) (length (framesOf s room d)) k h
+          (ap length (block-then x c) ∙ length-append (blockFrames w size s room x c) _) l in
+          laid-next x c k (isLast w size s room x c) refl (all-laid k (blockState w size s room x c) d h n)
 
-      pub whole : (x : S) (c : Point) → most ≤ size
-          → blocks text after most size (framesOf s room) (length s) x c ≡ textOf text after x (framesOf s room c)
+      pub whole : (x : S) (c : Point) → w .most ≤ size
+          → blocks w size s room (length s) x c ≡ textOf w x (framesOf s room c)
       whole x c h = all-laid (length s) x c h (few-frames s room (length s) c)
 
-      -- a loop that lays a block: what is left to be laid of it, from `used` bytes on, and where it will be come to
-      pub record Left (out₀ : List ℕ) (x₀ : S) (c₀ : Point) (out : List ℕ) (used : ℕ) (x : S)
-          (c : Point) : Type 0 where
-        pub lay :
-            ToStore out₀ 0 (textOf text after x₀ (blockOf text after most size x₀ (framesOf s room c₀)))
-            out used (textOf text after x (fitting text after most size x used (framesOf s room c)))
-        pub reach :
-            behindAll c (fitting text after most size x used (framesOf s room c))
-            ≡ behindAll c₀ (blockOf text after most size x₀ (framesOf s room c₀))
-        pub state :
-            afterAll text after x (fitting text after most size x used (framesOf s room c))
-            ≡ afterAll text after x₀ (blockOf text after most size x₀ (framesOf s room c₀))
+      -- what is left of a block, behind so many bytes of it
+      abbrev left : S → ℕ → Point → List Seen
+      left x used c = fitting w size x used (framesOf s room c)
 
-      pub left-all : {out₀ : List ℕ} {x₀ : S} {c₀ : Point} → Left out₀ x₀ c₀ out₀ 0 x₀ c₀
-      left-all = record { lay = store-all; reach = refl; state = refl }
+      -- a loop that lays the block of x₀ and c₀ over out₀ has come to x and c: what is left, laid from `used` on, makes
+      -- it whole
+      pub record Left (out₀ : List ℕ) (x₀ : S) (c₀ : Point) (out : List ℕ) (used : ℕ) (x : S) (c : Point) : Type 0 where
+        pub lay : ToStore out₀ 0 (blockText w size s room x₀ c₀) out used (textOf w x (left x used c))
+        pub reach : behindAll c (left x used c) ≡ blockEnd w size s room x₀ c₀
+        pub state : afterAll w x (left x used c) ≡ blockState w size s room x₀ c₀
 
-      -- a frame was laid
-      pub left-on : {out₀ out out′ : List ℕ} {x₀ x : S} {c₀ c : Point} {used used′ : ℕ} (m : Seen)
-          → Left out₀ x₀ c₀ out used x c
-          → nextOf s room c ≡ frame m → leb (used + most) size ≡ true → Stored out used (text x m) out′ used′
-          → Left out₀ x₀ c₀ out′ used′ (after x m) (behind m)
-      unfolding textOf afterAll behindAll
-      left-on {x = x} {c = c} {used = used} {used′ = used′} m l e t p =
-          let f = ap (fitting text after most size x used) (frames-on s room c m e) ∙ fits x used m _ t in
-          let g = f
-          ∙ ap (λ (n : ℕ). m ∷ fitting text after most size (after x m) n (framesOf s room (behind m)))
-          (sym (p .next)) in
-          record { lay = store-on (rw g at (l .lay)) p; reach = rw g at (l .reach); state = rw g at (l .state) }
+      -- all of it is laid
+      pub record Laid (out₀ : List ℕ) (x₀ : S) (c₀ : Point) (out : List ℕ) (used : ℕ) (x : S) (c : Point)
+          (ended : Bool) : Type 0 where
+        pub stored : Stored out₀ 0 (blockText w size s room x₀ c₀) out used
+        pub bytes : used ≡ length (blockText w size s room x₀ c₀)
+        pub reach : c ≡ blockEnd w size s room x₀ c₀
+        pub state : x ≡ blockState w size s room x₀ c₀
+        pub last : ended ≡ isLast w size s room x₀ c₀
 
-      -- all of it
-      pub record Laid (out₀ : List ℕ) (x₀ : S) (c₀ : Point) (out : List ℕ) (used : ℕ) (x : S)
-          (c : Point) : Type 0 where
-        pub stored : Stored out₀ 0
-            (textOf text after x₀ (blockOf text after most size x₀ (framesOf s room c₀))) out used
-        pub reach : c ≡ behindAll c₀ (blockOf text after most size x₀ (framesOf s room c₀))
-        pub state : x ≡ afterAll text after x₀ (blockOf text after most size x₀ (framesOf s room c₀))
+      module _ {out₀ : List ℕ} {x₀ : S} {c₀ : Point} where
+        pub left-all : Left out₀ x₀ c₀ out₀ 0 x₀ c₀
+        left-all = record { lay = store-all; reach = refl; state = refl }
 
-      laid-by : {out₀ out : List ℕ} {x₀ x : S} {c₀ c : Point} {used : ℕ} → Left out₀ x₀ c₀ out used x c
-          → fitting text after most size x used (framesOf s room c) ≡ [] → Laid out₀ x₀ c₀ out used x c
-      unfolding textOf afterAll behindAll
-      laid-by l e =
-          record {
-            stored = (rw e at (l .lay)) .then stored-none;
-            reach = rw e at (l .reach);
-            state =
-                rw e at (l .state);
-          }
+        module _ {out : List ℕ} {used : ℕ} {x : S} {c : Point} (l : Left out₀ x₀ c₀ out used x c) where
+          -- a frame was laid,
+          pub left-on : {out′ : List ℕ} {used′ : ℕ} (m : Seen) → nextOf s room c ≡ frame m → used + w .most ≤ size
+              → Stored out used (w .text x m) out′ used′ → Left out₀ x₀ c₀ out′ used′ (w .after x m) (behind m)
+          unfolding textOf afterAll behindAll
+          left-on m e h p =
+              let f = ap (fitting w size x used) (frames-on s room c m e)
+              ∙ fits x used m _ (le-leb (used + w .most) size h)
+              ∙ ap (λ (z : ℕ). m ∷ left (w .after x m) z (behind m)) (sym (p .next)) in
+              record { lay = store-on (rw f at (l .lay)) p; reach = rw f at (l .reach); state = rw f at (l .state) }
 
-      -- no frame is left,
-      pub left-none : {out₀ out : List ℕ} {x₀ x : S} {c₀ c : Point} {used : ℕ} → Left out₀ x₀ c₀ out used x c
-          → nextOf s room c ≡ none → Laid out₀ x₀ c₀ out used x c
-      left-none {x = x} {c = c} {used = used} l e =
-          laid-by l (ap (fitting text after most size x used) (no-frames s room c e) ∙ fits-none x used)
+          laid-by : left x used c ≡ [] → (t : Bool) → leb (used + w .most) size ≡ t
+              → Laid out₀ x₀ c₀ out used x c t
+          unfolding textOf afterAll behindAll
+          laid-by e t h =
+              let p = (rw e at (l .lay)) .then stored-none in
+              let n = p .next ∙ zero-add _ in
+              record {
+                stored = p;
+                bytes = n;
+                reach = rw e at (l .reach);
+                state = rw e at (l .state);
+                last = sym h ∙ ap (λ (k : ℕ). leb (k + w .most) size) n;
+              }
 
-      -- or no room
-      pub left-full : {out₀ out : List ℕ} {x₀ x : S} {c₀ c : Point} {used : ℕ} → Left out₀ x₀ c₀ out used x c
-          → leb (used + most) size ≡ false → Laid out₀ x₀ c₀ out used x c
-      left-full {x = x} {c = c} {used = used} l e = laid-by l (full x used (framesOf s room c) e)
+          -- no frame is left,
+          pub left-none : nextOf s room c ≡ none → used + w .most ≤ size → Laid out₀ x₀ c₀ out used x c true
+          left-none e h =
+              laid-by (ap (fitting w size x used) (no-frames s room c e) ∙ fits-none x used) true (le-leb _ _ h)
+
+          -- or no room
+          pub left-full : size < used + w .most → Laid out₀ x₀ c₀ out used x c false
+          left-full h =
+              let f = lt-leb (used + w .most) size h in
+              laid-by (full x used (framesOf s room c) f) false f
+
+-- what a loop that lays a block was lent is as long as it was, and its bytes have room
+pub record Rooms (room size : ℕ) (out₀ map out : List ℕ) (used : ℕ) : Type 0 where
+  pub map-room : length map ≡ room
+  pub long : length out ≡ length out₀
+  pub few : used ≤ size

@@ -22,10 +22,10 @@ pub numbers-in-order : NumbersInOrder
 numbers-in-order s room = numbered s room (length s) start (omega arith)
 
 pub last-leaves-none : LastLeavesNone
-last-leaves-none S text after most size s room x c = none-behind-last text after most size s room x c
+last-leaves-none S w size s room x c = none-behind-last w size s room x c
 
 pub blocks-are-whole : BlocksAreWhole
-blocks-are-whole S text after most size s room x c h = whole text after most size s room x c h
+blocks-are-whole S w size s room x c h = whole w size s room x c h
 
 pub advanced-once : AdvancedOnce
 advanced-once s mark map map₁ map₂ table table₁ table₂ x y o p q =

@@ -4,39 +4,55 @@ use mathlib.Core.List.{List, [], _∷_, _++_}
 use Prim.Native.Nat.{ℕ, zero, suc, _+_, min}
 use lib.Dec.{leb}
 use lib.ListN.{length}
-use Rattle.capture.specs.Frames.{Point, Seen, behindAll}
+use Rattle.capture.specs.Frames.{Point, Seen, framesOf, behindAll}
 
 -- of so many bytes lent for a block no more than 65,536 are used
 abbrev pub blockRoom : ℕ → ℕ
 blockRoom length = min 65536 length
 
--- a text for each frame, and a state that frames change
-module _ {S : Type 0} (text : S → Seen → List ℕ) (after : S → Seen → S) where
+-- a report of frames: the text of each, by a state that frames change, and the most bytes that such a text has
+pub record Report (S : Type 0) : Type 0 where
+  pub text : S → Seen → List ℕ
+  pub after : S → Seen → S
+  pub most : ℕ
+
+module _ {S : Type 0} (w : Report S) where
   unfoldable pub textOf : S → List Seen → List ℕ
   textOf x [] = []
-  textOf x (m ∷ ms) = text x m ++ textOf (after x m) ms
+  textOf x (m ∷ ms) = w .text x m ++ textOf (w .after x m) ms
 
   unfoldable pub afterAll : S → List Seen → S
   afterAll x [] = x
-  afterAll x (m ∷ ms) = afterAll (after x m) ms
+  afterAll x (m ∷ ms) = afterAll (w .after x m) ms
 
-  module _ (most room : ℕ) where
-    -- the first of some frames, behind so many bytes of a block: as long as it has room for the longest text of a frame
+  module _ (size : ℕ) where
+    -- the first of some frames, behind so many bytes of a block: as long as it has room for the longest text
     unfoldable pub fitting : S → ℕ → List Seen → List Seen
     fitting x used [] = []
-    fitting x used (m ∷ ms) = cond (leb (used + most) room) (m ∷ fitting (after x m) (used + length (text x m)) ms) []
+    fitting x used (m ∷ ms) =
+        cond (leb (used + w .most) size) (m ∷ fitting (w .after x m) (used + length (w .text x m)) ms) []
 
-    -- the frames of a whole block
-    abbrev pub blockOf : S → List Seen → List Seen
-    blockOf x ms = fitting x 0 ms
+    -- the block of a capture from a point on: its frames, their text,
+    module _ (s : List ℕ) (room : ℕ) where
+      module _ (x : S) (c : Point) where
+        abbrev pub blockFrames : List Seen
+        blockFrames = fitting x 0 (framesOf s room c)
 
-    -- a block with room for one text more is the last (`LastLeavesNone`)
-    abbrev pub isLast : S → List Seen → Bool
-    isLast x ms = leb (length (textOf x ms) + most) room
+        abbrev pub blockText : List ℕ
+        blockText = textOf x blockFrames
 
-    -- the text of at most k blocks one after the other, each from where the one before was come to, up to the last
-    unfoldable pub blocks : (Point → List Seen) → ℕ → S → Point → List ℕ
-    blocks frames zero x c = []
-    blocks frames (suc k) x c =
-        let ms = blockOf x (frames c) in
-        textOf x ms ++ cond (isLast x ms) [] (blocks frames k (afterAll x ms) (behindAll c ms))
+        -- where the capture is come to behind it, and the state there
+        abbrev pub blockEnd : Point
+        blockEnd = behindAll c blockFrames
+
+        abbrev pub blockState : S
+        blockState = afterAll x blockFrames
+
+        -- a block with room for one text more is the last (`LastLeavesNone`)
+        abbrev pub isLast : Bool
+        isLast = leb (length blockText + w .most) size
+
+      -- the text of at most k blocks one after the other, each from where the one before was come to, up to the last
+      unfoldable pub blocks : ℕ → S → Point → List ℕ
+      blocks zero x c = []
+      blocks (suc k) x c = blockText x c ++ cond (isLast x c) [] (blocks k (blockState x c) (blockEnd x c))

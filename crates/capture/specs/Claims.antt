@@ -8,7 +8,7 @@ use Rattle.capture.specs.declared.Mark.{Mark}
 use Rattle.capture.specs.declared.Step.{Step}
 use Rattle.capture.specs.Frames.{Point, Seen, frame, start, nextOf, framesFrom, framesOf, behindAll, OfPoint}
 use Rattle.capture.specs.Frames.{holdingOf, pointThen, stepOf, holdingBehind}
-use Rattle.capture.specs.Blocks.{textOf, blockOf, isLast, blocks}
+use Rattle.capture.specs.Blocks.{Report, textOf, blockEnd, isLast, blocks}
 use Rattle.capture.specs.Promises.{AdvancePromise}
 
 -- no frame is left out: where more are allowed than a capture has bytes, they are the same
@@ -36,19 +36,14 @@ NumbersInOrder = (s : List ℕ) (room : ℕ) → Numbered 0 (framesOf s room sta
 
 -- behind the last block no frame is left
 abbrev pub LastLeavesNone : Type 1
-LastLeavesNone =
-    (S : Type 0) (text : S → Seen → List ℕ) (after : S → Seen → S) (most size : ℕ) (s : List ℕ) (room : ℕ) (x : S)
-    (c : Point) → let ms = blockOf text after most size x (framesOf s room c) in
-    isLast text after most size x ms ≡ true → framesOf s room (behindAll c ms) ≡ []
+LastLeavesNone = (S : Type 0) (w : Report S) (size : ℕ) (s : List ℕ) (room : ℕ) (x : S) (c : Point)
+    → isLast w size s room x c ≡ true → framesOf s room (blockEnd w size s room x c) ≡ []
 
 -- a text of frames is laid whole in blocks up to the last, of which there are no more than bytes in the capture, where
 -- a block has room for the longest text of a frame
 abbrev pub BlocksAreWhole : Type 1
-BlocksAreWhole =
-    (S : Type 0) (text : S → Seen → List ℕ) (after : S → Seen → S) (most size : ℕ) (s : List ℕ) (room : ℕ) (x : S)
-    (c : Point)
-    → most ≤ size
-    → blocks text after most size (framesOf s room) (length s) x c ≡ textOf text after x (framesOf s room c)
+BlocksAreWhole = (S : Type 0) (w : Report S) (size : ℕ) (s : List ℕ) (room : ℕ) (x : S) (c : Point)
+    → w .most ≤ size → blocks w size s room (length s) x c ≡ textOf w x (framesOf s room c)
 
 -- the promise of `advance` allows one answer, one map and one table
 abbrev pub AdvancedOnce : Type 0

@@ -18,7 +18,7 @@ use Rattle.sync.specs.Sync.{firstOf}
 use Rattle.capture.specs.Frames.{framesFrom, start}
 use Rattle.capture.specs.Blocks.{textOf}
 use Rattle.capture.proofs.Theorems.{blocks-are-whole}
-use Rattle.listing_blocks.specs.Listing.{itemLines, framed, unchanged}
+use Rattle.listing_blocks.specs.Listing.{itemLines, records}
 use Rattle.listing_blocks.specs.Claims.{WorkedListing, LettersOfKinds, LetterOfRefusal, NothingIsLost}
 use Rattle.listing_blocks.specs.Claims.{ListingIsWhole}
 use Rattle.listing_blocks.proofs.Digits.{all-said}
@@ -45,4 +45,4 @@ pub nothing-is-lost : NothingIsLost
 nothing-is-lost = all-said
 
 pub listing-is-whole : ListingIsWhole
-listing-is-whole s size h = blocks-are-whole (Unit {0}) framed unchanged 26208 size s 4368 tt start h
+listing-is-whole s size h = blocks-are-whole (Unit {0}) records size s 4368 tt start h

@@ -9,7 +9,7 @@ use Rattle.element.specs.Mux.{kindU, kindC, kindL, kindP, kindO, kindA, Applied
 use Rattle.capture.specs.Frames.{OfEach, start, framesOf}
 use Rattle.capture.specs.Blocks.{blocks}
 use Rattle.capture.specs.Worked.{bytes01}
-use Rattle.listing_blocks.specs.Listing.{letterOf, itemLine, refusedLine, framed, unchanged, listingOf}
+use Rattle.listing_blocks.specs.Listing.{letterOf, itemLine, refusedLine, records, listingOf}
 
 -- document 01's nine lines for its bytes
 abbrev pub lines : List ℕ
@@ -64,4 +64,4 @@ NothingIsLost = (s : List ℕ) → OfEach (λ m. Said (m .number) (m .reading)) 
 -- many as a capture has bytes are enough, if each has room for a full map
 abbrev pub ListingIsWhole : Type 0
 ListingIsWhole = (s : List ℕ) (size : ℕ) → 26208 ≤ size
-    → blocks framed unchanged 26208 size (framesOf s 4368) (length s) tt start ≡ listingOf s
+    → blocks records size s 4368 (length s) tt start ≡ listingOf s

@@ -9,10 +9,10 @@ use Rattle.element.specs.declared.Verdict.the-variants.{Accepted, Refused}
 use Rattle.items.specs.declared.Item.{Item}
 use Rattle.items.specs.Items.{itemAt}
 use Rattle.capture.specs.declared.Mark.{Mark}
-use Rattle.capture.specs.Frames.{Point, Seen, framesOf, behindAll, markOf}
-use Rattle.capture.specs.Blocks as capture
+use Rattle.capture.specs.Frames.{Point, markOf}
+use Rattle.capture.specs.Blocks.{blockRoom, blockText, blockEnd, isLast}
 use Rattle.listing_blocks.specs.declared.Block.{Block}
-use Rattle.listing_blocks.specs.Listing.{lineOf, letterOf, refusedLine, framed, unchanged}
+use Rattle.listing_blocks.specs.Listing.{lineOf, letterOf, refusedLine, records}
 
 abbrev pub lineBy : ℕ → Item → List ℕ
 lineBy number it = lineOf number (letterOf (it .kind)) (it .stream) (it .first) (it .width)
@@ -31,23 +31,16 @@ abbrev pub verdictLines : ℕ → Verdict → List ℕ → List ℕ
 verdictLines number (Accepted items n sent) map = mapLines number map 0 items
 verdictLines number (Refused x) map = refusedLine number (x .number) (x .place) (x .fields)
 
-module _ (s : List ℕ) (size : ℕ) (c : Point) where
-  -- the frames that a block of so many bytes lists: as long as it has room for the records of a full map
-  abbrev pub blockFrames : List Seen
-  blockFrames = capture.blockOf framed unchanged 26208 size tt (framesOf s 4368 c)
-
-  abbrev pub blockText : List ℕ
-  blockText = capture.textOf framed unchanged tt blockFrames
-
-  abbrev pub blockOf : Block
-  blockOf = record {
-    reached = markOf (behindAll c blockFrames);
-    bytes = length blockText;
-    ended = capture.isLast framed unchanged 26208 size tt blockFrames;
-  }
+-- the block of a listing from a point on, of so many bytes
+abbrev pub blockOf : ℕ → List ℕ → Point → Block
+blockOf size s c = record {
+  reached = markOf (blockEnd records size s 4368 tt c);
+  bytes = length (blockText records size s 4368 tt c);
+  ended = isLast records size s 4368 tt c;
+}
 
 -- `lay_block`, with its bytes before and after it, whatever point the mark is of
 abbrev pub BlockPromise : List ℕ → Mark → List ℕ → Block → List ℕ → Type 0
 BlockPromise s mark out r out′ =
-    (c : Point) → mark ≡ markOf c → let size = capture.blockRoom (length out) in
-    (r ≡ blockOf s size c) × Stored out 0 (blockText s size c) out′ (r .bytes)
+    (c : Point) → mark ≡ markOf c → let size = blockRoom (length out) in
+    (r ≡ blockOf size s c) × Stored out 0 (blockText records size s 4368 tt c) out′ (r .bytes)

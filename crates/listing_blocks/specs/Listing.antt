@@ -5,8 +5,8 @@ use lib.ListN.{getD}
 use Rattle.kernel.specs.Element.{Item, Answer, accepted, rejected}
 use Rattle.text.specs.Text.{letters}
 use Rattle.element.specs.Mux.{Applied}
-use Rattle.capture.specs.Frames.{Seen, start, framesOf}
-use Rattle.capture.specs.Blocks.{textOf}
+use Rattle.capture.specs.Frames.{start, framesOf}
+use Rattle.capture.specs.Blocks.{Report, textOf}
 
 -- the digit of n at a place 1, 10, 100, ..
 abbrev pub digitAt : ℕ → ℕ → ℕ
@@ -48,14 +48,10 @@ abbrev pub listed : ℕ → Answer Applied → List ℕ
 listed number (accepted a its n) = itemLines number its
 listed number (rejected r its) = refusedLine number (r .refusal .number) (r .refusal .place) (r .refusal .fields)
 
--- the records of a frame
-abbrev pub framed : Unit {0} → Seen → List ℕ
-framed x m = listed (m .number) (m .reading)
-
--- nothing is remembered from frame to frame
-abbrev pub unchanged : Unit {0} → Seen → Unit {0}
-unchanged x m = x
+-- of a frame at most 1,092; nothing is remembered from frame to frame
+abbrev pub records : Report (Unit {0})
+records = record { text = λ x m. listed (m .number) (m .reading); after = λ x m. x; most = 26208 }
 
 -- the listing of a capture
 abbrev pub listingOf : List ℕ → List ℕ
-listingOf s = textOf framed unchanged tt (framesOf s 4368 start)
+listingOf s = textOf records tt (framesOf s 4368 start)

@@ -77,7 +77,7 @@ fn item_line(number: usize, it: Item) -> [u8; 24]
 
 // The records of a map's first items, from byte `at` on; the byte behind them.
 fn lay_items(out: &mut [u8], at: usize, number: usize, map: &[u32], items: usize) -> usize
-    requires { ⌜ (at ≤ 65536) × (items ≤ 1092) ⌝ }
+    requires { ⌜ at + 24 * items ≤ 1000000 ⌝ }
     ensures { λ r. ⌜ (r ≡ at + 24 * items)
         × Stored (now (out .entry)) at (mapLines number (now (map .entry)) 0 items) (now (out .exit)) r ⌝ }
 {
@@ -93,7 +93,7 @@ fn lay_items(out: &mut [u8], at: usize, number: usize, map: &[u32], items: usize
 }
 
 fn lay_refused(out: &mut [u8], at: usize, number: usize, x: Refusal) -> usize
-    requires { ⌜ at ≤ 65536 ⌝ }
+    requires { ⌜ at + 24 ≤ 1000000 ⌝ }
     ensures { λ r. ⌜ (r ≡ at + 24)
         × Stored (now (out .entry)) at (refusedLine number (x .number) (x .place) (x .fields)) (now (out .exit)) r ⌝ }
 {
@@ -103,7 +103,7 @@ fn lay_refused(out: &mut [u8], at: usize, number: usize, x: Refusal) -> usize
 
 // The records of an element, by its verdict and its map.
 fn lay_verdict(out: &mut [u8], at: usize, number: usize, v: Verdict, map: &[u32]) -> usize
-    requires { ⌜ (at ≤ 65536) × Within v ⌝ }
+    requires { ⌜ (at + 26208 ≤ 1000000) × Within v ⌝ }
     ensures { λ r. ⌜ (r ≤ at + 26208)
         × Stored (now (out .entry)) at (verdictLines number v (now (map .entry))) (now (out .exit)) r ⌝ }
 {

@@ -18,24 +18,22 @@ use writer::Written;
 
 // An item of this kind behind those before it; what has no room is left out.
 fn copy_if(el: &[u8], it: Item, kind: u32, out: &mut [u8], at: usize) -> usize
-    requires { ⌜ (at ≤ 20000) × (length (now out) ≡ 8192) ⌝ }
-    ensures { λ r. ⌜ r ≤ 20000 ⌝ }
+    requires { ⌜ (at ≤ 8200) × (length (now out) ≡ 8200) ⌝ }
+    ensures { λ r. ⌜ (at ≤ r) × (r ≤ 8200) ⌝ }
 {
     if it.kind != kind {
         return at;
     }
-    if out.len() <= at {
-        return at;
-    }
-    copy_item(el, it, out, at)
+    let to = copy_item(el, it, out, at);
+    least(to, 8200)
 }
 
-// The items of one kind; the bytes that they have.
-fn copy_kind(el: &[u8], map: &[u32], items: usize, kind: u32, out: &mut [u8]) -> usize
-    requires { ⌜ length (now out) ≡ 8192 ⌝ }
-    ensures { λ r. ⌜ r ≤ 20000 ⌝ }
+// The items of one kind, from byte `from` on; the byte behind them.
+fn copy_kind(el: &[u8], map: &[u32], items: usize, kind: u32, out: &mut [u8], from: usize) -> usize
+    requires { ⌜ (from ≤ 8200) × (length (now out) ≡ 8200) ⌝ }
+    ensures { λ r. ⌜ (from ≤ r) × (r ≤ 8200) ⌝ }
 {
-    let mut at: usize = 0;
+    let mut at = from;
     let mut i: usize = 0;
     while i < items {
         let it = item_at(map, i);
@@ -71,64 +69,59 @@ fn slots_of(map: &[u32], items: usize, lengths: &mut [u32]) -> usize
     n
 }
 
-// Buffers are lent: payload and other data of up to 8,191 bytes, an element, and its frame.
+// Payload is the first p bytes, other data those behind them up to byte o.
 fn write_anew(
     r: Record,
     sent: bool,
     lengths: &[u32],
-    payload: &[u8],
-    other: &[u8],
+    bytes: &[u8],
+    p: usize,
+    o: usize,
     out: &mut [u8],
-    frame: &mut [u8],
-)
-    requires { ⌜ (length (now out) ≡ 8192) × (length (now frame) ≡ 8200) ⌝ }
+) -> Written
+    requires { ⌜ (p ≤ o) × (o ≤ length (now bytes)) ⌝ }
 {
-    let w = writer::write(r, sent, lengths, payload, other, out);
+    writer::write(r, sent, lengths, &bytes[..p], &bytes[p..o], out)
+}
+
+// Writes an element out, in a frame.
+fn send(w: Written, out: &[u8], frame: &mut [u8]) {
     let Written::Done(n) = w else {
         return;
     };
-    if n <= 8192 {
+    if n <= out.len() {
         let f = sync::frame(&out[..n], frame);
         let Framed::Done(m) = f else {
             return;
         };
-        if m <= 8200 {
+        if m <= frame.len() {
             io::write_all(1, &frame[..m]);
         }
     }
 }
 
-// What was read of one element, taken out slot by slot and written anew; nothing of one that was refused.
+// What was read of one element, taken out slot by slot and written anew; nothing of one that was refused. Payload and
+// other data stand in `bytes` one behind the other, and then the frame.
 fn take_out(
     el: &[u8],
     v: Verdict,
     r: Record,
     map: &[u32],
     lengths: &mut [u32],
-    payload: &mut [u8],
-    other: &mut [u8],
+    bytes: &mut [u8],
     out: &mut [u8],
-    frame: &mut [u8],
 )
-    requires { ⌜ (length (now lengths) ≡ 1092) × (length (now payload) ≡ 8192) × (length (now other) ≡ 8192)
-        × (length (now out) ≡ 8192) × (length (now frame) ≡ 8200) ⌝ }
+    requires { ⌜ (length (now lengths) ≡ 1092) × (length (now bytes) ≡ 8200) × (length (now out) ≡ 8192) ⌝ }
 {
     let Verdict::Accepted(items, _, sent) = v else {
         return;
     };
     let k = least(items as usize, 1092);
     let n = slots_of(map, k, lengths);
-    let p = least(copy_kind(el, map, k, 4, payload), 8192);
-    let o = least(copy_kind(el, map, k, 5, other), 8192);
-    write_anew(
-        r,
-        sent,
-        &lengths[..n],
-        &payload[..p],
-        &other[..o],
-        out,
-        frame,
-    );
+    let p = copy_kind(el, map, k, 4, bytes, 0);
+    let o = copy_kind(el, map, k, 5, bytes, p);
+    let w = write_anew(r, sent, &lengths[..n], bytes, p, o, out);
+    send(w, out, bytes);
 }
 
 // Each element of the capture in turn; the buffers are lent.
@@ -137,13 +130,11 @@ fn all(
     map: &mut [u32],
     table: &mut [[u8; 8]; 16],
     lengths: &mut [u32],
-    payload: &mut [u8],
-    other: &mut [u8],
+    bytes: &mut [u8],
     out: &mut [u8],
-    frame: &mut [u8],
 )
-    requires { ⌜ (length (now map) ≡ 4368) × (length (now lengths) ≡ 1092) × (length (now payload) ≡ 8192)
-        × (length (now other) ≡ 8192) × (length (now out) ≡ 8192) × (length (now frame) ≡ 8200) ⌝ }
+    requires { ⌜ (length (now map) ≡ 4368) × (length (now lengths) ≡ 1092) × (length (now bytes) ≡ 8200)
+        × (length (now out) ≡ 8192) ⌝ }
 {
     let mut reached = start_holding();
     loop {
@@ -156,7 +147,7 @@ fn all(
         reached = holding_behind(reached, step);
         let held = reached.held;
         let el = element_at(capture, p, n);
-        take_out(el, v, held.config, map, lengths, payload, other, out, frame);
+        take_out(el, v, held.config, map, lengths, bytes, out);
     }
 }
 
@@ -169,19 +160,15 @@ fn main() {
     let none = [255; 8];
     let mut table = [none; 16];
     let mut lengths = [0; 1092];
-    let mut payload = [0; 8192];
-    let mut other = [0; 8192];
+    let mut bytes = [0; 8200];
     let mut out = [0; 8192];
-    let mut frame = [0; 8200];
     all(
         &buf[..n],
         &mut map,
         &mut table,
         &mut lengths,
-        &mut payload,
-        &mut other,
+        &mut bytes,
         &mut out,
-        &mut frame,
     );
     if over == 1 {
         io::write_all(

@@ -2,6 +2,7 @@
 // one for each refused element.
 ghost use mathlib.Core.Path.{_≡_};
 ghost use lib.ListN.{length};
+ghost use Rattle.capture.specs.Frames.{start, framesOf, behindAll};
 use capture::start_holding;
 use summary_blocks::lay_block;
 use summary_blocks::lay_end;
@@ -10,6 +11,7 @@ use summary_blocks::lay_head;
 // Writes the lines of a capture out, block by block; the number of its frames.
 fn show(capture: &[u8], out: &mut [u8]) -> usize
     requires { ⌜ length (now out) ≡ 65536 ⌝ }
+    ensures { λ r. ⌜ r ≡ behindAll start (framesOf (now (capture .entry)) 4368 start) .number ⌝ }
 {
     let mut reached = start_holding();
     let mut said = false;

@@ -27,7 +27,7 @@ use Rattle.summary_lines.specs.Lines.{layersText, programsText}
 use Rattle.capture.specs.Frames.{Point, Seen, start, behind, behindAll, framesFrom, framesOf}
 use Rattle.capture.specs.Blocks.{textOf}
 use Rattle.capture.proofs.Theorems.{blocks-are-whole}
-use Rattle.summary_blocks.specs.Summary.{framed, saidThen}
+use Rattle.summary_blocks.specs.Summary.{lines}
 use Rattle.summary_blocks.specs.Claims.{SummaryIsWhole, WorkedSummary}
 
 -- behind a frame no element has the number 0
@@ -47,7 +47,7 @@ none-or-some (m ∷ ms) =
 
 pub summary-is-whole : SummaryIsWhole
 summary-is-whole s over size h =
-    rw (blocks-are-whole Bool framed saidThen 14336 size s 4368 false start h, none-or-some (framesOf s 4368 start))
+    rw (blocks-are-whole Bool lines size s 4368 false start h, none-or-some (framesOf s 4368 start))
 
 pub worked-summary : WorkedSummary
 unfolding textOf framesFrom figures layersText programsText firstOf

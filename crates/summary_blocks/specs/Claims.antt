@@ -8,7 +8,7 @@ use Rattle.capture.specs.Frames.{start, framesOf, behindAll}
 use Rattle.capture.specs.Blocks.{blocks}
 use Rattle.capture.specs.Worked.{bytes01}
 use Rattle.text.specs.Text.{letters}
-use Rattle.summary_blocks.specs.Summary.{framed, saidThen, headText, endText, summaryOf}
+use Rattle.summary_blocks.specs.Summary.{lines, headText, endText, summaryOf}
 
 -- The first line, the text of blocks one after the other up to the last, each from where the one before was come to,
 -- and the last lines by the number of the element come to are the summary: as many blocks as a capture has bytes are
@@ -16,7 +16,7 @@ use Rattle.summary_blocks.specs.Summary.{framed, saidThen, headText, end
 abbrev pub SummaryIsWhole : Type 0
 SummaryIsWhole = (s : List ℕ) (over : Bool) (size : ℕ) → 14336 ≤ size
     → headText
-    ++ (blocks framed saidThen 14336 size (framesOf s 4368) (length s) false start
+    ++ (blocks lines size s 4368 (length s) false start
     ++ endText (behindAll start (framesOf s 4368 start) .number) over)
     ≡ summaryOf s over
 

@@ -11,10 +11,10 @@ use Rattle.element.specs.declared.Held.{Held}
 use Rattle.element.specs.declared.Verdict.{Verdict}
 use Rattle.element.specs.declared.Verdict.the-variants.{Accepted, Refused}
 use Rattle.summary_lines.specs.Lines.{programsText}
-use Rattle.capture.specs.Frames.{Point, Seen, framesOf, behindAll, holdingOf}
-use Rattle.capture.specs.Blocks as capture
+use Rattle.capture.specs.Frames.{Point, holdingOf}
+use Rattle.capture.specs.Blocks.{blockRoom, blockText, blockEnd, blockState, isLast}
 use Rattle.summary_blocks.specs.declared.Block.{Block}
-use Rattle.summary_blocks.specs.Summary.{changes, firstWanting, refusalText, framed, saidThen}
+use Rattle.summary_blocks.specs.Summary.{changes, firstWanting, refusalText, lines}
 
 abbrev pub acceptedBy : ℕ → Held → Bool → Record → List (List ℕ) → List ℕ
 acceptedBy element held sent r table = cond (changes held sent r) (programsText element r table 0 16) []
@@ -27,24 +27,17 @@ abbrev pub verdictSaid : Bool → Verdict → Bool
 verdictSaid said (Accepted items n sent) = said
 verdictSaid said (Refused x) = said || firstWanting said x
 
-module _ (s : List ℕ) (size : ℕ) (c : Point) (said : Bool) where
-  -- the frames whose lines a block of so many bytes has: as long as it has room for 128 rows
-  abbrev pub blockFrames : List Seen
-  blockFrames = capture.blockOf framed saidThen 14336 size said (framesOf s 4368 c)
-
-  abbrev pub blockText : List ℕ
-  blockText = capture.textOf framed saidThen said blockFrames
-
-  abbrev pub blockOf : Block
-  blockOf = record {
-    reached = holdingOf (behindAll c blockFrames);
-    said = capture.afterAll framed saidThen said blockFrames;
-    bytes = length blockText;
-    ended = capture.isLast framed saidThen 14336 size said blockFrames;
-  }
+-- the block of a summary from a point on, of so many bytes
+abbrev pub blockOf : ℕ → List ℕ → Bool → Point → Block
+blockOf size s said c = record {
+  reached = holdingOf (blockEnd lines size s 4368 said c);
+  said = blockState lines size s 4368 said c;
+  bytes = length (blockText lines size s 4368 said c);
+  ended = isLast lines size s 4368 said c;
+}
 
 -- `lay_block`, with its bytes before and after it
 abbrev pub BlockPromise : List ℕ → Point → Bool → List ℕ → Block → List ℕ → Type 0
 BlockPromise s c said out r out′ =
-    let size = capture.blockRoom (length out) in
-    (r ≡ blockOf s size c said) × Stored out 0 (blockText s size c said) out′ (r .bytes)
+    let size = blockRoom (length out) in
+    (r ≡ blockOf size s said c) × Stored out 0 (blockText lines size s 4368 said c) out′ (r .bytes)

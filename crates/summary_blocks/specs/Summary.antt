@@ -12,8 +12,8 @@ use Rattle.records.specs.Same.{sameRecord}
 use Rattle.summary_lines.specs.Lines.{rowsText, refusedText}
 use Rattle.element.specs.declared.Held.{Held}
 use Rattle.element.specs.Mux.{Applied}
-use Rattle.capture.specs.Frames.{Seen, start, framesOf}
-use Rattle.capture.specs.Blocks.{textOf}
+use Rattle.capture.specs.Frames.{start, framesOf}
+use Rattle.capture.specs.Blocks.{Report, textOf}
 
 -- an element changes the held configuration where it sends one that was not held
 abbrev pub changes : Held → Bool → Record → Bool
@@ -42,12 +42,13 @@ abbrev pub saidAfter : Bool → Answer Applied → Bool
 saidAfter said (accepted a its n) = said
 saidAfter said (rejected r its) = said || firstWanting said (r .refusal)
 
--- of a frame, as they are asked of the text of a capture
-abbrev pub framed : Bool → Seen → List ℕ
-framed said m = shown (m .number) (m .before) said (m .reading)
-
-abbrev pub saidThen : Bool → Seen → Bool
-saidThen said m = saidAfter said (m .reading)
+-- of a frame at most 128 rows; what is remembered is whether the want of a configuration was said
+abbrev pub lines : Report Bool
+lines = record {
+  text = λ said m. shown (m .number) (m .before) said (m .reading);
+  after = λ said m. saidAfter said (m .reading);
+  most = 14336;
+}
 
 -- the first line,
 abbrev pub headText : List ℕ
@@ -70,4 +71,4 @@ endText frames over = cond (eqb frames 0) noFrameText [] ++ cond over overText [
 abbrev pub summaryOf : List ℕ → Bool → List ℕ
 summaryOf s over =
     let ms = framesOf s 4368 start in
-    headText ++ (textOf framed saidThen false ms ++ endText (length ms) over)
+    headText ++ (textOf lines false ms ++ endText (length ms) over)

@@ -43,7 +43,7 @@ fn lay_accepted(
     r: Record,
     table: [[u8; 8]; 16],
 ) -> usize
-    requires { ⌜ at ≤ 65536 ⌝ }
+    requires { ⌜ at + 14336 ≤ 1000000 ⌝ }
     ensures { λ x. ⌜ (x ≤ at + 14336)
         × Stored (now (out .entry)) at (acceptedBy element held sent r table) (now (out .exit)) x ⌝ }
 {
@@ -57,8 +57,8 @@ fn lay_accepted(
 }
 
 fn lay_refusal(out: &mut [u8], at: usize, element: usize, wanting: bool, x: Refusal) -> usize
-    requires { ⌜ at ≤ 65536 ⌝ }
-    ensures { λ r. ⌜ (r ≤ at + 14336)
+    requires { ⌜ at + 187 ≤ 1000000 ⌝ }
+    ensures { λ r. ⌜ (r ≤ at + 187)
         × Stored (now (out .entry)) at (refusalText element wanting x) (now (out .exit)) r ⌝ }
 {
     if wanting {
@@ -89,7 +89,7 @@ fn lay_verdict(
     r: Record,
     table: [[u8; 8]; 16],
 ) -> usize
-    requires { ⌜ at ≤ 65536 ⌝ }
+    requires { ⌜ at + 14336 ≤ 1000000 ⌝ }
     ensures { λ x. ⌜ (x ≤ at + 14336)
         × Stored (now (out .entry)) at (verdictText element held said v r table) (now (out .exit)) x ⌝ }
 {
@@ -204,7 +204,7 @@ fn lay_no_frame(out: &mut [u8], frames: usize) -> usize
 }
 
 fn lay_over(out: &mut [u8], at: usize, over: bool) -> usize
-    requires { ⌜ at ≤ 38 ⌝ }
+    requires { ⌜ at + 71 ≤ 1000000 ⌝ }
     ensures { λ r. ⌜ (r ≤ at + 71) × Stored (now (out .entry)) at (cond over overText []) (now (out .exit)) r ⌝ }
 {
     if over {

@@ -18,35 +18,23 @@ abbrev μ-loop : tie.MeasureT-loop
 loop-holds : tie.Need-loop-holds Inv-loop μ-loop
 loop-holds c = (search needs, record { point = _; is = c .start .ensures })
 
-lay-block-requires : tie.Need-lay-block-requires Inv-loop μ-loop
-lay-block-requires c κs = c .before .loop .inv .1
-
 slice-aggregate-write-all : tie.Need-slice-aggregate-write-all Inv-loop μ-loop
 slice-aggregate-write-all c = simp length-take (omega (arith, c .before .before .before .lay-block .ensures .1))
-
-returns : tie.Need-returns Inv-loop μ-loop
-returns c = search needs
 
 loop-less : tie.Need-loop-less Inv-loop μ-loop
 loop-less c =
     let b = c .before .before .before .before .before .before in
-    let l = b .before .before in
-    let s = l .before .before .before .before .args .capture .now in
-    omega (
-      arith,
-      block-on s (l .loop .out) (l .loop .inv .1) (b .lay-block .ensures .0) (l .loop .inv .0)
-          (c .before .if1 .left),
-    )
+    let i = b .before .before .loop .inv in
+    omega (arith, block-on _ _ (i .1) (b .lay-block .ensures .0) (omega (arith, i .0)) (c .before .if1 .left))
 
 loop-again : tie.Need-loop-again Inv-loop μ-loop
 loop-again c =
     let b = c .before .before .before .before .before .before in
-    let l = b .before .before in
-    let s = l .before .before .before .before .args .capture .now in
-    (search needs, block-of s (l .loop .out) (l .loop .inv .1) (b .lay-block .ensures .0))
+    (search needs, block-of _ _ (b .before .before .loop .inv .1) (b .lay-block .ensures .0))
 
 pub list-spec : {M : Type 1} → statement M
 list-spec =
     tie.close
-    (tie.spec Inv-loop μ-loop (λ c κs. search needs) loop-holds lay-block-requires (λ c. search needs)
-    slice-aggregate-write-all (λ c κs. search needs) (λ c. search needs) returns loop-less loop-again)
+    (tie.spec Inv-loop μ-loop (λ c κs. search needs) loop-holds (λ c κs. c .before .loop .inv .1)
+    (λ c. search needs) slice-aggregate-write-all (λ c κs. search needs) (λ c. search needs) (λ c. search needs)
+    loop-less loop-again)

@@ -1,46 +1,41 @@
 -- `summary_blocks::lay_frames` meets its contract.
 use mathlib.Core.Path.{refl}
-use Prim.Native.Nat.{_+_, _-_, _≤_, _<_}
+use Prim.Native.Nat.{_-_}
 use native.Mathlib.Omega.{arith}
 use lib.ListN.{length}
-use borrow.Author.Tests.{le-leb, lt-leb}
+use borrow.Author.Needs.{needs}
 use Rattle.capture.specs.Frames.{pointOf}
 use Rattle.capture.proofs.Steps.{Took, whole-mark, took, took-none, took-further, whole-then, point-then}
 use Rattle.capture.proofs.Blocks.{left-all, left-on, left-none, left-full}
-use Rattle.summary_blocks.specs.Summary.{framed, saidThen}
+use Rattle.summary_blocks.specs.Summary.{lines}
 use Rattle.summary_blocks.proofs.Blocks.{laid-frame, said-then, Going, block-laid}
-use borrow.Author.Needs.{needs}
 use Rattle.summary_blocks.proofs.lay_frames.Statement.{statement}
 use Rattle.summary_blocks.proofs.lay_frames.Tie as tie
 
 abbrev Inv-loop : tie.InvT-loop
 Inv-loop capture before map₀ table₀ out₀ room reached₀ said₀ used₀ map table out reached said used =
-    Going capture room out₀ before (pointOf reached₀) map out reached said used
+    Going capture out₀ before (pointOf reached₀) map out reached said used
 
 abbrev μ-loop : tie.MeasureT-loop
 μ-loop capture before map₀ table₀ out₀ room reached₀ said₀ used₀ map table out reached said used =
     length capture - reached .mark .at
 
+abbrev lent : (l : tie.At-loop Inv-loop μ-loop) → tie.Start Inv-loop μ-loop
+lent l = l .before .before .before .before .before
+
 -- the frame that a turn took
 taken : (f : tie.After-found Inv-loop μ-loop) → let a = f .before .before .before .before in
     let l = a .before .before .before .before .before in
-    let s = l .before .before .before .before .before .args .capture .now in
-    Took s 4368 (pointOf (l .loop .reached)) (l .loop .map) (a .advance .last .1 .1 .0) (l .loop .table)
-    (a .advance .last .1 .1 .1 .0) (f .found .given .0 .1 .1 .0) (a .advance .result)
+    Took (lent l .args .capture .now) 4368 (pointOf (l .loop .reached)) (l .loop .map) (a .advance .last .1 .1 .0)
+    (l .loop .table) (a .advance .last .1 .1 .1 .0) (f .found .given .0 .1 .1 .0) (a .advance .result)
 taken f =
     let a = f .before .before .before .before in
     let l = a .before .before .before .before .before in
     took _ 4368 _ (l .loop .map) (l .loop .table) (whole-mark (l .loop .reached) (l .loop .inv .whole))
-    (a .advance .ensures) (l .loop .inv .room) _ _ _ (f .found .given .1)
+    (a .advance .ensures) (l .loop .inv .rooms .map-room) _ _ _ (f .found .given .1)
 
 loop-holds : tie.Need-loop-holds Inv-loop μ-loop
-loop-holds c = record {
-  room = search needs;
-  long = search needs;
-  few = search needs;
-  whole = search needs;
-  left = left-all framed saidThen 14336 _ _ 4368;
-}
+loop-holds c = record { rooms = search needs; whole = search needs; left = left-all lines _ _ 4368 }
 
 advance-requires : tie.Need-advance-requires Inv-loop μ-loop
 advance-requires c κs =
@@ -51,15 +46,12 @@ returns : tie.Need-returns Inv-loop μ-loop
 returns c =
     let a = c .before .before .before .before in
     let l = a .before .before .before .before .before in
-    let s = l .before .before .before .before .before .args .capture .now in
-    let e = took-none s 4368 _ (l .loop .map) (l .loop .table) (whole-mark (l .loop .reached) (l .loop .inv .whole))
-    (a .advance .ensures) (l .loop .inv .room) (c .enum-told .given .1) in
-    let h : l .loop .used + 14336 ≤ l .before .block-room .result =
-    omega (arith, a .before .before .before .before .loop-test .taken) in (
-      block-laid _ (l .loop .inv .whole) (left-none framed saidThen 14336 _ s 4368 (l .loop .inv .left) e)
-          (l .before .block-room .ensures) (le-leb _ _ h),
-      omega (arith, l .loop .inv .few, l .before .block-room .ensures),
-    )
+    let i = l .loop .inv in
+    let e = took-none (lent l .args .capture .now) 4368 _ (l .loop .map) (l .loop .table)
+    (whole-mark (l .loop .reached) (i .whole)) (a .advance .ensures) (i .rooms .map-room) (c .enum-told .given .1) in
+    let q = l .before .block-room .ensures in
+    let h = a .before .before .before .before .loop-test .taken in
+    (block-laid (i .whole) (left-none lines _ _ 4368 (i .left) e (omega (arith, q, h))), omega (arith, i .rooms .few))
 
 loop-less : tie.Need-loop-less Inv-loop μ-loop
 loop-less c =
@@ -71,18 +63,15 @@ loop-again c =
     let f = c .before .before .before .before .before .before .before .before .before in
     let a = f .before .before .before .before in
     let l = a .before .before .before .before .before in
-    let s = l .before .before .before .before .before .args .capture .now in
     let t = taken f in
     let b = c .holding-behind .ensures in
     let n = c .before .before .before .before .lay-verdict .ensures in
-    let h : l .loop .used + 14336 ≤ l .before .block-room .result =
-    omega (arith, a .before .before .before .before .loop-test .taken) in
-    let left = left-on framed saidThen 14336 _ s 4368 (t .seen) (l .loop .inv .left) (t .is) (le-leb _ _ h)
+    let q = l .before .block-room .ensures in
+    let h = a .before .before .before .before .loop-test .taken in
+    let left = left-on lines _ _ 4368 (l .loop .inv .left) (t .seen) (t .is) (omega (arith, q, h))
     (laid-frame t (l .loop .said) (n .1)) in
     record {
-      room = search needs;
-      long = search needs;
-      few = omega (arith, n .0, h);
+      rooms = record { map-room = search needs; long = search needs; few = omega (arith, n .0, q, h) };
       whole = whole-then t (l .loop .reached) refl b;
       left = rw (
         point-then t (l .loop .reached) refl b,
@@ -94,11 +83,10 @@ loop-again c =
 returns-2 : tie.Need-returns-2 Inv-loop μ-loop
 returns-2 c =
     let l = c .before in
-    let s = l .before .before .before .before .before .args .capture .now in
-    let h : l .before .block-room .result < l .loop .used + 14336 = omega (arith, c .loop-test .left) in (
-      block-laid _ (l .loop .inv .whole) (left-full framed saidThen 14336 _ s 4368 (l .loop .inv .left) (lt-leb _ _ h))
-          (l .before .block-room .ensures) (lt-leb _ _ h),
-      omega (arith, l .loop .inv .few, l .before .block-room .ensures),
+    let i = l .loop .inv in
+    let h = l .before .block-room .ensures in (
+      block-laid (i .whole) (left-full lines _ _ 4368 (i .left) (omega (arith, h, c .loop-test .left))),
+      omega (arith, i .rooms .few),
     )
 
 pub lay-frames-spec : {M : Type 1} → statement M

@@ -1,4 +1,5 @@
 -- `summary_blocks::lay_verdict` meets its contract.
+use native.Mathlib.Omega.{arith}
 use borrow.Author.Needs.{needs}
 use Rattle.summary_blocks.proofs.lay_verdict.Statement.{statement}
 use Rattle.summary_blocks.proofs.lay_verdict.Tie as tie
@@ -9,7 +10,8 @@ returns c = rw (c .before .before .before .before .before .v .given .1) (c .befo
 returns-2 : tie.Need-returns-2
 returns-2 c =
     let f = c .before .before .before .before in
-    rw (f .before .before .v2 .given .1) (rw (f .first-wanting .ensures) at (c .before .before .lay-refusal .ensures))
+    let n = rw (f .first-wanting .ensures) at (c .before .before .lay-refusal .ensures) in
+    rw (f .before .before .v2 .given .1) (omega (arith, n .0), n .1)
 
 pub lay-verdict-spec : {M : Type 1} → statement M
 lay-verdict-spec =
