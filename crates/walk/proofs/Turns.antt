@@ -3,14 +3,13 @@ use mathlib.Core.Path.{_≡_}
 use mathlib.Core.List.{List, [], _∷_, _++_}
 use Prim.Native.Nat.{ℕ, zero, suc, _+_, _*_, _-_, _<_, _≤_}
 use native.Mathlib.Omega.{arith}
-use lib.ListN.{length, getD, set, take, drop, replicate, length-take, drop-of-length-le}
-use lib.Seq.{drop-cons, drop-drop, drop-set-lt, getD-take, take-suc-set}
+use lib.ListN.{length, getD, take, drop, length-take, drop-of-length-le}
 use lib.Dec.{eqb}
 use Rattle.kernel.specs.declared.Window.the-variants.{Open}
 use Rattle.kernel.specs.declared.Refusal.{Refusal}
 use Rattle.kernel.specs.Reading.{give, field, choose, _>>=_, run}
 use Rattle.kernel.specs.Answer.{Told, value, refusal}
-use Rattle.kernel.proofs.Lists.{drop-replicate}
+use Rattle.kernel.proofs.Lists.{next-one}
 use Rattle.kernel.proofs.Chain.{Comes, gave-told, gives, on, off, itself, goes-on}
 use Rattle.kernel.proofs.Kept.{Any, Kept, gives as keeps, either, so as keeps-so, a-field, on as keeps-on, run-kept}
 use Rattle.element.specs.Mux.{slotFrom, muxSlotLengthBytes, payloadLengthInfo}

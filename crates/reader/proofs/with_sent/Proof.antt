@@ -3,9 +3,9 @@ use native.Mathlib.Omega.{arith}
 use borrow.Author.Needs.{needs}
 use Rattle.kernel.specs.Answer.{toldWith}
 use Rattle.kernel.proofs.Along.{Asked, start, asks, only, came, gave}
+use Rattle.kernel.proofs.There.{ahead}
 use Rattle.records.specs.declared.Record.{Record}
 use Rattle.config.specs.Mux.{streamMuxConfig}
-use Rattle.walk.proofs.Goes.{ahead}
 use Rattle.reader.proofs.Plans.{plan-fits}
 use Rattle.reader.proofs.Whole.{sent-valid, sent-refused, sent-accepted, sent-rejected}
 use Rattle.reader.proofs.with_sent.Statement.{statement}
