@@ -126,7 +126,7 @@ fn put_subframes(
 // useSameStreamMux, and the configuration if sent.
 fn put_front(out: &mut [u8], send: bool, r: Record) -> usize
     requires { ⌜ (r .programs ≤ 15) × (streamsIn (r .layers) (r .programs) 16 ≤ 16) ⌝ }
-    ensures { λ x. ⌜ (x ≤ 3001) × Put (now (out .entry)) 0 (frontBits send r) (now (out .exit)) x ⌝ }
+    ensures { λ x. ⌜ (x ≤ 2974) × Put (now (out .entry)) 0 (frontBits send r) (now (out .exit)) x ⌝ }
 {
     if send {
         let a = put(out, 0, 1, 0);
