@@ -1,13 +1,13 @@
 -- What is read of AudioSpecificConfig is valid, and refused by a number of 01's table.
 use mathlib.Core.Path.{_≡_, refl}
-use mathlib.Core.Bool.{Bool, true}
+use mathlib.Core.Bool.{Bool, true, not, _&&_}
 use Prim.Native.Nat.{ℕ, _≤_}
 use native.Mathlib.Omega.{arith}
 use lib.Dec.{leb, eqb}
 use borrow.Author.Tests.{leb-true, le-leb, eqb-true}
 use Rattle.kernel.specs.declared.Window.{Window}
 use Rattle.kernel.specs.declared.Window.the-variants.{Open, UpTo}
-use Rattle.kernel.proofs.Kept.{Numbered, chosen, Any, Kept, gives, refuses, refuses-after, either, a-field, a-place}
+use Rattle.kernel.proofs.Kept.{chosen, Any, Kept, gives, refuses, refuses-after, either, a-field, a-place}
 use Rattle.kernel.proofs.Kept.{a-need, on, then}
 use Rattle.kernel.proofs.Tests.{both}
 use Rattle.records.specs.declared.Freq.{Freq}
@@ -19,6 +19,10 @@ use Rattle.asc.specs.declared.Flags.{Flags}
 use Rattle.asc.specs.Asc.{isCore, isFront, objectType, anyType, hertz, frequency, channelConfiguration, unset}
 use Rattle.asc.specs.Asc.{psExtension, psTail, sbrExtension, extensionType, syncExtension, tail, inFront}
 use Rattle.asc.specs.Asc.{gaSpecificConfig, configOf, alone, underFront, audioSpecificConfig}
+
+-- the refusals behind the flag of an element: 3, and 5 to 15
+abbrev pub Numbered : ℕ → Type 0
+Numbered m = (leb 3 m && leb m 15 && not (eqb m 4)) ≡ true
 
 -- ---- frequencies, types and flags
 

@@ -11,7 +11,7 @@ use lib.Pow.{pow-mono}
 use lib.Seq.{getD-set-same, getD-set-other}
 use borrow.Author.Tests.{eqb-true, eqb-false, leb-true}
 use Rattle.kernel.specs.Reading.{Reading, give, choose}
-use Rattle.kernel.proofs.Kept.{Numbered, Kept, gives, refuses, either, so, a-field, a-pass, a-place, a-need, on, then}
+use Rattle.kernel.proofs.Kept.{Kept, gives, refuses, either, so, a-field, a-pass, a-place, a-need, on, then}
 use Rattle.kernel.proofs.Tests.{both}
 use Rattle.records.specs.declared.Config.{Config}
 use Rattle.records.specs.declared.Stream.{Stream}
@@ -22,7 +22,7 @@ use Rattle.records.specs.Valid.{validConfig, validFixed, validStream, validOf}
 use Rattle.records.proofs.Apart.{FixedOk, of-type-0, of-type-1, fixed-valid, record-valid}
 use Rattle.records.proofs.Tables.{streams-more, streams-end}
 use Rattle.numbers.proofs.Given.{Wide, get-value, groups-from}
-use Rattle.asc.proofs.Given.{Configured, asc}
+use Rattle.asc.proofs.Given.{Numbered, Configured, asc}
 use Rattle.config.specs.declared.Head.{Head}
 use Rattle.config.specs.declared.Ending.{Ending}
 use Rattle.config.specs.declared.Places.{Places}
@@ -215,7 +215,7 @@ record EndingOk (t : Ending) : Type 0 where
 
 other-length : (version : ℕ) → Kept Numbered (Wide 32) (otherLength version)
 unfolding otherLength
-other-length version = either _ (λ _. get-value) (λ _. groups-from 4 0 0 (omega arith))
+other-length version = either _ (λ _. get-value) (λ _. groups-from refl 4 0 0 (omega arith))
 
 mux-ending : (version : ℕ) → Kept Numbered EndingOk (muxEnding version)
 unfolding muxEnding

@@ -3,10 +3,11 @@ use mathlib.Core.Path.{_≡_, refl}
 use mathlib.Core.List.{List}
 use Prim.Native.Nat.{ℕ}
 use Rattle.kernel.specs.Reading.{gave, run}
-use Rattle.kernel.proofs.Kept.{Numbered, run-kept}
+use Rattle.kernel.proofs.Kept.{run-kept}
 use Rattle.kernel.proofs.Ends.{run-ends}
+use Rattle.asc.proofs.Given.{Numbered}
 use Rattle.records.specs.declared.Record.{Record}
-use Rattle.config.specs.Mux.{streamMuxConfig, layers}
+use Rattle.config.specs.Mux.{streamMuxConfig}
 use Rattle.config.specs.Claims.{WindowedReadsBack, RecordReadsBack, ReadIsValid, ReadReadsBack, NoFill}
 use Rattle.config.specs.Claims.{SameWhereEqual, RecordIsShortest}
 use Rattle.config.proofs.TripMux.{windowed-trip, record-trip, no-fill-trip}

@@ -15,9 +15,10 @@ use Rattle.kernel.specs.Answer.{Told, value, refusal, told}
 use Rattle.kernel.proofs.Run.{bind-assoc}
 use Rattle.kernel.proofs.Tests.{either, neither}
 use Rattle.kernel.proofs.Chain.{Comes, gives, on, off, same-end, itself, goes-on, steady, gave-told}
-use Rattle.kernel.proofs.Kept.{Numbered, run-kept}
+use Rattle.kernel.proofs.Kept.{run-kept}
 use Rattle.kernel.specs.Lists.{tab}
 use Rattle.kernel.proofs.Lists.{tab-none}
+use Rattle.asc.proofs.Given.{Numbered}
 use Rattle.records.specs.declared.Config.{Config}
 use Rattle.records.specs.declared.Stream.{Stream}
 use Rattle.records.specs.Blank.{noStream}

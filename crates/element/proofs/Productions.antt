@@ -16,9 +16,10 @@ use Rattle.kernel.proofs.Values.{value-lt, value-one}
 use Rattle.kernel.proofs.Tests as tests
 use Rattle.kernel.proofs.Tests.{three, neither}
 use Rattle.kernel.proofs.Induction.{by-part}
-use Rattle.kernel.proofs.Kept.{Numbered, chosen, Any, keeps-map, Kept, gives, either, a-field, on, fit-kept}
+use Rattle.kernel.proofs.Kept.{chosen, Any, keeps-map, Kept, gives, either, a-field, on, fit-kept}
 use Rattle.kernel.proofs.Kept.{OutcomeKept, out-fit, Each, KeepsAll, keeps-follow, PassageKept, kept-item, kept-so}
 use Rattle.kernel.proofs.Kept.{walk-keeps, AnswerKept, told-end}
+use Rattle.asc.proofs.Given.{Numbered}
 use Rattle.records.specs.declared.Stream.{Stream}
 use Rattle.records.specs.declared.Record.{Record}
 use Rattle.config.proofs.Given.{ReadOk, mux}

@@ -1,10 +1,10 @@
 -- What a tree keeps to: R of the number of every refusal, P of every answer, each field being below 2 ^ its width, and
 -- of an element J of the content and kind of every item.
 use mathlib.Core.Path.{_≡_, refl}
-use mathlib.Core.Bool.{Bool, true, false, cond, not, _&&_}
+use mathlib.Core.Bool.{Bool, true, false, cond}
 use mathlib.Core.List.{List, [], _∷_}
 use Prim.Native.Nat.{ℕ, _+_, _*_, _<_, _^_, min}
-use lib.Dec.{ltb, leb, eqb}
+use lib.Dec.{ltb, eqb}
 use lib.ListN.{length}
 use Rattle.kernel.specs.declared.Window.{Window}
 use Rattle.kernel.specs.Bits.{valueAt}
@@ -23,10 +23,6 @@ chosen P false a b p q = q
 -- any answer
 abbrev pub Any : {A : Type 0} → A → Type 0
 Any a = Unit {0}
-
--- the refusals behind the flag of an element: 3, and 5 to 15
-abbrev pub Numbered : ℕ → Type 0
-Numbered m = (leb 3 m && leb m 15 && not (eqb m 4)) ≡ true
 
 -- ---- readings
 

@@ -38,7 +38,7 @@ pub record Reached (s : List ℕ) (size : ℕ) (out₀ : List ℕ) (from : Point
   pub left : Left records size s 4368 out₀ tt from out used tt point
 
 -- whatever point it was that its mark was of
-pub record Going (s : List ℕ) (out₀ : List ℕ) (from : Mark) (map out : List ℕ) (used : ℕ) (reached : Mark) : Type 0 where
+pub record Going (s out₀ : List ℕ) (from : Mark) (map out : List ℕ) (used : ℕ) (reached : Mark) : Type 0 where
   pub rooms : Rooms 4368 (blockRoom (length out₀)) out₀ map out used
   pub begun : (c : Point) → from ≡ markOf c → Reached s (blockRoom (length out₀)) out₀ c out used reached
 

@@ -14,9 +14,10 @@ use Rattle.kernel.specs.Answer.{told, value, refusal, unread}
 use Rattle.kernel.specs.Element.{Item, Passage, came, fell, done, fields, item, withItem, next, walk, read, Answer}
 use Rattle.kernel.specs.Element.{accepted, rejected, ended}
 use Rattle.kernel.proofs.Chain.{Comes, apart, gave-told, on, off, holds, fails, gives, took}
-use Rattle.kernel.proofs.Kept.{Numbered, run-kept}
+use Rattle.kernel.proofs.Kept.{run-kept}
 use Rattle.kernel.proofs.Induction.{by-part}
 use Rattle.kernel.proofs.Walk.{under, onward, walk-follow, walk-gave}
+use Rattle.asc.proofs.Given.{Numbered}
 use Rattle.records.specs.declared.Record.{Record}
 use Rattle.records.specs.Table.{tableOf}
 use Rattle.records.specs.Valid.{validOf}

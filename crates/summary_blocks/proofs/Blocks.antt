@@ -14,7 +14,7 @@ use Rattle.capture.proofs.Steps.{Took}
 use Rattle.capture.proofs.Blocks.{Left, Laid, Rooms, end-ahead, last-end, further-on}
 use Rattle.summary_blocks.specs.declared.Block.{Block}
 use Rattle.summary_blocks.specs.Summary.{lines}
-use Rattle.summary_blocks.specs.Laid.{verdictText, verdictSaid, blockOf, BlockPromise}
+use Rattle.summary_blocks.specs.Laid.{verdictText, verdictSaid, BlockPromise}
 use Rattle.summary_blocks.proofs.Texts.{shown-is, said-is}
 
 -- the step of a block took a frame: its lines, and what is then said, are those of its verdict

@@ -12,7 +12,7 @@ use Rattle.kernel.specs.declared.Cursor.{Cursor}
 use Rattle.kernel.specs.declared.Refusal.{Refusal}
 use Rattle.kernel.specs.declared.Window.the-variants.{Open}
 use Rattle.kernel.specs.Reading.{Reading, pass, fit, onFit, run, Stands}
-use Rattle.kernel.specs.Answer.{Told, value, refusal, told}
+use Rattle.kernel.specs.Answer.{Told, value, refusal}
 use Rattle.kernel.specs.Element.{Passing, closed, passed, Item, item, partItem, Element, done, part, over, spot, follow}
 use Rattle.kernel.specs.Element.{Passage, came, fell, withItem, walk}
 use Rattle.kernel.proofs.Chain.{Comes, apart, gave-told}

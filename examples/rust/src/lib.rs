@@ -53,7 +53,7 @@ mod c {
 pub const CAPTURE_BYTES: usize = 65536;
 pub const MAP_WORDS: usize = 4368;
 
-// The words of a record, as include/schilfauge.h builds them up, and those held: 1 more where one is present.
+// The words of a record, as include/schilfauge.h builds them up, and those held: a word more, whether one is.
 const PROGRAMS: usize = 16;
 const STREAMS: usize = 16;
 const STREAM_WORDS: usize = 14;
