@@ -4,7 +4,7 @@ use native.Mathlib.Omega.{arith}
 use lib.ListN.{length}
 use Rattle.capture.specs.Frames.{start}
 use Rattle.capture.specs.Claims.{FramesAreAll, NextIsInside, SittingsAreOne, NumbersInOrder, BlocksAreWhole}
-use Rattle.capture.specs.Claims.{LastLeavesNone, AdvancedOnce, HoldingFollows}
+use Rattle.capture.specs.Claims.{RoomIsUsed, LastLeavesNone, AdvancedOnce, HoldingFollows}
 use Rattle.capture.proofs.Frames.{all-frames, next-inside, sittings, numbered}
 use Rattle.capture.proofs.Steps.{held-follows}
 use Rattle.capture.proofs.Blocks.{none-behind-last, whole}
@@ -20,6 +20,9 @@ sittings-are-one s room k c = sittings s room k c
 
 pub numbers-in-order : NumbersInOrder
 numbers-in-order s room = numbered s room (length s) start (omega arith)
+
+pub room-is-used : RoomIsUsed
+room-is-used n = (λ h. omega arith, λ h. omega arith)
 
 pub last-leaves-none : LastLeavesNone
 last-leaves-none S w size s room x c = none-behind-last w size s room x c

@@ -8,7 +8,7 @@ use Rattle.capture.specs.declared.Mark.{Mark}
 use Rattle.capture.specs.declared.Step.{Step}
 use Rattle.capture.specs.Frames.{Point, Seen, frame, start, nextOf, framesFrom, framesOf, behindAll, OfPoint}
 use Rattle.capture.specs.Frames.{holdingOf, pointThen, stepOf, holdingBehind}
-use Rattle.capture.specs.Blocks.{Report, textOf, blockEnd, isLast, blocks}
+use Rattle.capture.specs.Blocks.{blockRoom, Report, textOf, blockEnd, isLast, blocks}
 use Rattle.capture.specs.Promises.{AdvancePromise}
 
 -- no frame is left out: where more are allowed than a capture has bytes, they are the same
@@ -33,6 +33,10 @@ Numbered n (m ∷ ms) = (m .number ≡ n) × Numbered (n + 1) ms
 -- the elements of a capture are numbered from 0
 abbrev pub NumbersInOrder : Type 0
 NumbersInOrder = (s : List ℕ) (room : ℕ) → Numbered 0 (framesOf s room start)
+
+-- of up to 65,536 bytes lent for a block none is left out, and of more so many are used
+abbrev pub RoomIsUsed : Type 0
+RoomIsUsed = (n : ℕ) → (n ≤ 65536 → blockRoom n ≡ n) × (65536 ≤ n → blockRoom n ≡ 65536)
 
 -- behind the last block no frame is left
 abbrev pub LastLeavesNone : Type 1
