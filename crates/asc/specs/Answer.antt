@@ -16,18 +16,22 @@ use Rattle.asc.specs.declared.Configured.{Configured}
 use Rattle.asc.specs.declared.Configured.the-variants as configured
 use Rattle.asc.specs.Asc.{isCore, isFront}
 
+-- of a frequency
 abbrev pub toldRated : Rated → Told Freq
 toldRated (rated.Value r) = value (r .freq) (r .next .at) (r .next .fields)
 toldRated (rated.Refused x) = refusal x
 
+-- of the three flags
 abbrev pub toldFlagged : Flagged → Told Flags
 toldFlagged (flagged.Value r) = value (r .flags) (r .next .at) (r .next .fields)
 toldFlagged (flagged.Refused x) = refusal x
 
+-- of a form
 abbrev pub toldFormed : Formed → Told Form
 toldFormed (formed.Value r) = value (r .form) (r .next .at) (r .next .fields)
 toldFormed (formed.Refused x) = refusal x
 
+-- of a whole configuration
 abbrev pub toldConfigured : Configured → Told Config
 toldConfigured (configured.Value r) = value (r .config) (r .next .at) (r .next .fields)
 toldConfigured (configured.Refused x) = refusal x

@@ -15,10 +15,11 @@ use Rattle.records.specs.declared.Form.the-variants.{None, Type5, Type29, Flag0
 use Rattle.records.specs.declared.Config.{Config}
 use Rattle.asc.specs.declared.Flags.{Flags}
 
--- the types carried: a core, and what stands first, a core or type 5 or 29 in front of one
+-- the core types carried
 abbrev pub isCore : ℕ → Bool
 isCore t = leb 1 t && leb t 4
 
+-- what may stand first: a core, or type 5 or 29 in front of one
 abbrev pub isFront : ℕ → Bool
 isFront t = leb 1 t && leb t 5 || eqb t 29
 
@@ -47,6 +48,7 @@ frequency win = do
   i ← field win 4
   choose (leb i 12) (give (Index i)) (choose (eqb i 15) (hertz win) (refuse 9 4))
 
+-- as it is written: an index, or index 15 and 24 bits
 unfoldable pub freqBits : Freq → List Bool
 freqBits (Index i) = bitsOf 4 i
 freqBits (Hz h) = bitsOf 4 15 ⧺ bitsOf 24 h
@@ -106,6 +108,7 @@ tail win = do
   p ← here
   choose (leb 16 (left win p)) (syncExtension win) (give None)
 
+-- as it is written: nothing but where the form stands behind 0x2B7
 unfoldable pub tailBits : Form → List Bool
 tailBits None = []
 tailBits (Type5 x) = []
@@ -163,7 +166,7 @@ audioSpecificConfig win = do
   c ← channelConfiguration win
   choose (isCore t) (alone t f c win) (underFront t f c win)
 
--- the type in front, and what stands between channelConfiguration and the flags
+-- the type in front
 unfoldable pub frontBits : ℕ → Form → List Bool
 frontBits core None = bitsOf 5 core
 frontBits core (Type5 x) = bitsOf 5 5
@@ -172,6 +175,7 @@ frontBits core Flag0 = bitsOf 5 core
 frontBits core (Flag1 x) = bitsOf 5 core
 frontBits core (FlagPs x f) = bitsOf 5 core
 
+-- behind the channels, where 5 or 29 stands in front: the extension frequency and the core
 unfoldable pub underBits : ℕ → Form → List Bool
 underBits core None = []
 underBits core (Type5 x) = freqBits x ⧺ bitsOf 5 core
@@ -180,6 +184,7 @@ underBits core Flag0 = []
 underBits core (Flag1 x) = []
 underBits core (FlagPs x f) = []
 
+-- a configuration as it is written
 unfoldable pub ascBits : Config → List Bool
 ascBits c =
     frontBits (c .core) (c .form) ⧺ freqBits (c .freq) ⧺ bitsOf 4 (c .channels) ⧺ underBits (c .core) (c .form)

@@ -30,15 +30,18 @@ ConfigIsShortest =
     (win : Window) (s : List ℕ) (at n : ℕ) (c : Config) (to m : ℕ)
     → run s (audioSpecificConfig win) at n ≡ gave c to m → at + length (ascBits c) ≤ to
 
--- each promise allows one answer
+-- each promise allows one answer: of a frequency,
 abbrev pub RatedOnce : Type 0
 RatedOnce = TellsOnce toldRated
 
+-- of the flags,
 abbrev pub FlaggedOnce : Type 0
 FlaggedOnce = TellsOnce toldFlagged
 
+-- of a form,
 abbrev pub FormedOnce : Type 0
 FormedOnce = TellsOnce toldFormed
 
+-- and of a whole configuration
 abbrev pub ConfiguredOnce : Type 0
 ConfiguredOnce = TellsOnce toldConfigured

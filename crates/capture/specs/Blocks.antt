@@ -17,10 +17,12 @@ pub record Report (S : Type 0) : Type 0 where
   pub most : ℕ
 
 module _ {S : Type 0} (w : Report S) where
+  -- the texts of some frames one after the other, from a state on
   unfoldable pub textOf : S → List Seen → List ℕ
   textOf x [] = []
   textOf x (m ∷ ms) = w .text x m ++ textOf (w .after x m) ms
 
+  -- and the state behind them
   unfoldable pub afterAll : S → List Seen → S
   afterAll x [] = x
   afterAll x (m ∷ ms) = afterAll (w .after x m) ms
@@ -32,19 +34,22 @@ module _ {S : Type 0} (w : Report S) where
     fitting x used (m ∷ ms) =
         cond (leb (used + w .most) size) (m ∷ fitting (w .after x m) (used + length (w .text x m)) ms) []
 
-    -- the block of a capture from a point on: its frames, their text,
+    -- the block of a capture from a point on:
     module _ (s : List ℕ) (room : ℕ) where
       module _ (x : S) (c : Point) where
+        -- its frames,
         abbrev pub blockFrames : List Seen
         blockFrames = fitting x 0 (framesOf s room c)
 
+        -- their text,
         abbrev pub blockText : List ℕ
         blockText = textOf x blockFrames
 
-        -- where the capture is come to behind it, and the state there
+        -- where the capture is come to behind it,
         abbrev pub blockEnd : Point
         blockEnd = behindAll c blockFrames
 
+        -- and the state there
         abbrev pub blockState : S
         blockState = afterAll x blockFrames
 

@@ -68,6 +68,7 @@ module _ (s : List ℕ) (room : ℕ) where
     reading = answer (elementAt s p n) (c .held) room;
   }
 
+  -- by what a hunt found
   abbrev pub nextBy : Point → Hunted → Next
   nextBy c (hunted.Found p n) = frame (seenAt c p n)
   nextBy c (hunted.Refused x) = none
@@ -108,6 +109,7 @@ pub record OfPoint (mark : Mark) : Type 0 where
 abbrev pub holdingOf : Point → Holding
 holdingOf c = record { mark = markOf c; held = c .held }
 
+-- and the point that it is of
 abbrev pub pointOf : Holding → Point
 pointOf h = record { at = h .mark .at; number = h .mark .number; held = h .held }
 
@@ -115,15 +117,17 @@ pointOf h = record { at = h .mark .at; number = h .mark .number; held = h .held 
 abbrev pub Whole : Holding → Type 0
 Whole h = h ≡ holdingOf (pointOf h)
 
--- what is found of the next frame, what it sent, and where the capture is then come to
+-- what is found of the next frame,
 abbrev pub foundBy : Next → Found
 foundBy (frame m) = Frame (m .place) (m .size) (verdictOf (m .reading))
 foundBy none = End
 
+-- what it sent, or the blank record
 abbrev pub sentIn : Next → Record
 sentIn (frame m) = sentBy (m .reading)
 sentIn none = noRecord
 
+-- and where the capture is then come to
 abbrev pub pointThen : Point → Next → Point
 pointThen c (frame m) = behind m
 pointThen c none = c
@@ -144,10 +148,12 @@ holdingBehind from step = record {
   held = heldFrom (from .held) (step .found) (step .sent);
 }
 
+-- the map lent, afterwards: as it stood where there is no frame
 abbrev pub mapBy : List ℕ → Next → List ℕ
 mapBy map (frame m) = mapAfter map (m .reading)
 mapBy map none = map
 
+-- and the table
 abbrev pub tableBy : List (List ℕ) → Next → List (List ℕ)
 tableBy table (frame m) = tableAfter table (m .reading)
 tableBy table none = table

@@ -2,6 +2,7 @@
 use mathlib.Core.List.{List, [], _∷_}
 use Prim.Native.Nat.{ℕ}
 
+-- two frames, of nine bytes and of two
 abbrev pub bytes01 : List ℕ
 bytes01 =
     0x56 ∷ 0xE0 ∷ 0x09 ∷ 0x20 ∷ 0x00 ∷ 0x11 ∷ 0x90 ∷ 0x1F ∷ 0xE0 ∷ 0x15 ∷ 0x5E ∷ 0x68

@@ -32,6 +32,7 @@ windowed = do
 unfoldable pub configuration : ℕ → Reading Config
 configuration version = choose (eqb version 1) windowed (audioSpecificConfig Open)
 
+-- as it is written: in version 1 behind its length, without fill
 unfoldable pub configBits : ℕ → Config → List Bool
 configBits version c = cond (eqb version 1) (valueBits (length (ascBits c)) ⧺ ascBits c) (ascBits c)
 
@@ -43,6 +44,7 @@ frameLength c = do
       (choose (eqb t 1) (field Open 9 >>= λ l. give (record { config = c; kind = 1; fullness = 0; fixed = l }))
       (refuse 13 3))
 
+-- as it is written
 unfoldable pub frameLengthBits : Stream → List Bool
 frameLengthBits s = bitsOf 3 (s .kind) ⧺ cond (eqb (s .kind) 0) (bitsOf 8 (s .fullness)) (bitsOf 9 (s .fixed))
 
@@ -58,6 +60,7 @@ layer version next before = do
   c ← choose (eqb next 0) (configuration version) (sentOrSame version before)
   frameLength c
 
+-- as it is written: useSameConfig is 1 wherever it can be
 unfoldable pub layerBits : ℕ → ℕ → Config → Stream → List Bool
 layerBits version next before s =
     cond (eqb next 0) (configBits version (s .config))
@@ -75,6 +78,7 @@ layers version (suc n) next streams = do
   s ← layer version next (configAt streams (next - 1))
   layers version n (next + 1) (set streams next s)
 
+-- as they are written
 unfoldable pub layersBits : ℕ → ℕ → ℕ → List Stream → List Bool
 layersBits version zero next streams = []
 layersBits version (suc n) next streams =
@@ -96,6 +100,7 @@ programs version (suc n) p next places = do
   streams ← layers version (k + 1) next (places .streams)
   programs version n (p + 1) (next + (k + 1)) (record { layers = set (places .layers) p k; streams = streams })
 
+-- as they are written, each with its numLayer
 unfoldable pub programsBits : ℕ → ℕ → ℕ → ℕ → List ℕ → List Stream → List Bool
 programsBits version zero p next ks streams = []
 programsBits version (suc n) p next ks streams =
@@ -128,6 +133,7 @@ muxHead = do
     programs = n;
   })
 
+-- as it is written
 unfoldable pub muxHeadBits : Record → List Bool
 muxHeadBits r =
     bitsOf 1 (r .version) ⧺ cond (eqb (r .version) 1) (bitsOf 1 (r .subversion)) []
@@ -147,6 +153,7 @@ muxEnding version = do
   crc ← choose (eqb checked 1) (field Open 8) (give 0)
   give (record { other = other; bits = bits; checked = checked; crc = crc })
 
+-- as it is written
 unfoldable pub muxEndingBits : Record → List Bool
 muxEndingBits r =
     bitsOf 1 (r .other) ⧺ cond (eqb (r .other) 1)
@@ -182,5 +189,6 @@ streamMuxConfig = do
   t ← muxEnding (h .version)
   give (recordOf h g t)
 
+-- a record as it is written
 unfoldable pub muxBits : Record → List Bool
 muxBits r = muxHeadBits r ⧺ programsBits (r .version) (r .programs + 1) 0 0 (r .layers) (r .streams) ⧺ muxEndingBits r

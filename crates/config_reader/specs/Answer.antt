@@ -15,6 +15,7 @@ use Rattle.config_reader.specs.declared.Ended.the-variants as ended
 use Rattle.config.specs.declared.Places.{Places}
 use Rattle.config_reader.specs.declared.Placed.{Placed}
 
+-- of what stands before the programs
 abbrev pub toldHeaded : Headed → Told Head
 toldHeaded (headed.Value r) = value (r .head) (r .next .at) (r .next .fields)
 toldHeaded (headed.Refused x) = refusal x
@@ -24,15 +25,17 @@ abbrev pub FewPrograms : Headed → Type 0
 FewPrograms (headed.Value r) = (r .head .programs ≤ 15) × (r .head .subframes ≤ 63)
 FewPrograms (headed.Refused x) = Unit {0}
 
+-- of what stands behind them
 abbrev pub toldEnded : Ended → Told Ending
 toldEnded (ended.Value r) = value (r .ending) (r .next .at) (r .next .fields)
 toldEnded (ended.Refused x) = refusal x
 
--- a fact that holds where nothing was refused, and where something was
+-- a fact that holds where nothing was refused,
 abbrev pub IfReached : Reached → Type 0 → Type 0
 IfReached (To c) X = X
 IfReached (Refused x) X = Unit {0}
 
+-- and one that holds where something was
 abbrev pub IfRefused : Reached → Type 0 → Type 0
 IfRefused (To c) X = Unit {0}
 IfRefused (Refused x) X = X
@@ -42,6 +45,7 @@ abbrev pub tableAfter : Reached → List (List ℕ) → List ℕ → ℕ → Lis
 tableAfter (To c) table layers n = tableOf layers n
 tableAfter (Refused x) table layers n = table
 
+-- the layers and streams of what the reader of programs answers
 abbrev pub placesOf : Placed → Places
 placesOf r = record { layers = r .layers; streams = r .streams }
 

@@ -116,12 +116,13 @@ module _ (s : List ℕ) (held : Held) (room : ℕ) where
   ItemsTile =
       (a : Applied) (its : List Item) (n : ℕ) → answer s held room ≡ accepted a its n → Tiles 0 its (8 * length s)
 
-  -- each bit lies in exactly one of them, and their widths add up to its bits
+  -- each bit lies in exactly one of them,
   abbrev pub EachBitInOneItem : Type 0
   EachBitInOneItem =
       (a : Applied) (its : List Item) (n : ℕ) → answer s held room ≡ accepted a its n → (i : ℕ) → i < 8 * length s
       → OneItem its i
 
+  -- and their widths add up to its bits
   abbrev pub WidthsAddUp : Type 0
   WidthsAddUp =
       (a : Applied) (its : List Item) (n : ℕ) → answer s held room ≡ accepted a its n → sumWidths its ≡ 8 * length s
@@ -220,12 +221,13 @@ module _ (s : List ℕ) (held : Held) (room : ℕ) where
   SentHasItsPlaces = (a : Applied) (its : List Item) (n : ℕ) → answer s held room ≡ accepted a its n
       → a .sent ≡ true → (length (a .config .layers) ≡ 16) × (length (a .config .streams) ≡ 16)
 
--- each promise allows one answer, and one content of what is lent
+-- each promise allows one answer, and one content of what is lent: that of a reading,
 abbrev pub ReadOnce : Type 0
 ReadOnce =
     (s : List ℕ) (held : Held) (x y : Reply) (map map₁ map₂ : List ℕ) → ReadPromise s held map x map₁
     → ReadPromise s held map y map₂ → (x ≡ y) × (map₁ ≡ map₂)
 
+-- and that of the reading with a table
 abbrev pub ReadWithOnce : Type 0
 ReadWithOnce = (s : List ℕ) (held : Held) (x y : Reply) (map map₁ map₂ : List ℕ) (table table₁ table₂ : List (List ℕ))
     → ReadWithPromise s held map table x map₁ table₁ → ReadWithPromise s held map table y map₂ table₂

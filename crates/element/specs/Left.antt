@@ -26,6 +26,7 @@ pub record Left : Type 0 where
   pub map : List ℕ
   pub table : List (List ℕ)
 
+-- by the answer to an element
 abbrev pub leftBy : Held → List ℕ → List (List ℕ) → Answer Applied → Left
 leftBy held map table x = record { reply = replyWith held x; map = mapAfter map x; table = tableAfter table x }
 

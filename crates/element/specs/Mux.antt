@@ -14,22 +14,29 @@ use Rattle.records.specs.Valid.{validOf}
 use Rattle.config.specs.Mux.{streamMuxConfig}
 use Rattle.element.specs.declared.Held.{Held}
 
--- the kinds of items: U, C, L, P, O, A
+-- ---- the kinds of items
+
+-- U: useSameStreamMux
 abbrev pub kindU : ℕ
 kindU = 1
 
+-- C: StreamMuxConfig
 abbrev pub kindC : ℕ
 kindC = 2
 
+-- L: the lengths of a subframe
 abbrev pub kindL : ℕ
 kindL = 3
 
+-- P: a payload
 abbrev pub kindP : ℕ
 kindP = 4
 
+-- O: other data
 abbrev pub kindO : ℕ
 kindO = 5
 
+-- A: alignment
 abbrev pub kindA : ℕ
 kindA = 6
 
@@ -91,10 +98,11 @@ byteAlignment = spot λ p. passOver spare kindA 0 ((8 - p % 8) % 8)
 unfoldable pub rest : ℕ → List (Reading ℕ) → Bool → ℕ → Element Unit
 rest n slots other bits = follow (subframes n slots) λ _. follow (otherData other bits) λ _. byteAlignment
 
--- the streams that a record has, and the slot of each
+-- the streams that a record has,
 abbrev pub streamsOf : Record → List Stream
 streamsOf r = take (streamsIn (r .layers) (r .programs) 16) (r .streams)
 
+-- and the slot of each of some streams
 abbrev pub slotsOf : List Stream → List (Reading ℕ)
 slotsOf ss = map (λ s. slotOf (s .kind) (s .fixed)) ss
 

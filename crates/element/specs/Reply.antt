@@ -32,6 +32,7 @@ unfoldable pub numbers : List Item → List ℕ
 numbers [] = []
 numbers (it ∷ its) = it .kind ∷ it .stream ∷ it .first ∷ it .width ∷ numbers its
 
+-- what an answer is in the words of code: the items by their number alone
 abbrev pub verdictOf : Answer Applied → Verdict
 verdictOf (accepted a its n) = Accepted (length its) n (a .sent)
 verdictOf (rejected r its) = Refused (r .refusal)
@@ -51,9 +52,11 @@ abbrev pub heldBy : Held → Verdict → Record → Held
 heldBy held (Accepted k n sent) r = cond sent (record { present = true; config = r }) held
 heldBy held (Refused x) r = held
 
+-- the verdict on an element and what is then held, by its answer
 abbrev pub replyWith : Held → Answer Applied → Reply
 replyWith held x = record { verdict = verdictOf x; held = heldAfter held x }
 
+-- and by its bytes
 abbrev pub replyOf : List ℕ → Held → ℕ → Reply
 replyOf s held room = replyWith held (answer s held room)
 

@@ -7,6 +7,7 @@ use lib.ListN.{length, getD}
 use Rattle.kernel.specs.Element as kernel
 use Rattle.items.specs.declared.Item.{Item}
 
+-- what is answered for an item that is not there: kind 0
 abbrev pub noItem : Item
 noItem = record { kind = 0; stream = 0; first = 0; width = 0 }
 
@@ -30,6 +31,7 @@ itemsFrom map i (suc k) = itemAt map i ∷ itemsFrom map (i + 1) k
 abbrev pub itemOf : kernel.Item → Item
 itemOf it = record { kind = it .kind; stream = it .stream; first = it .first; width = it .width }
 
+-- and all items of an element
 unfoldable pub itemsOf : List kernel.Item → List Item
 itemsOf [] = []
 itemsOf (it ∷ its) = itemOf it ∷ itemsOf its

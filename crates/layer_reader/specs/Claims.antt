@@ -2,5 +2,6 @@
 use Rattle.kernel.specs.Promises.{TellsOnce}
 use Rattle.layer_reader.specs.Answer.{toldStreamed}
 
+-- the promise allows one answer
 abbrev pub StreamedOnce : Type 0
 StreamedOnce = TellsOnce toldStreamed

@@ -20,6 +20,7 @@ lines =
     ++ (letters "000001 L 00 00001 00008\n" ++
     (letters "000001 P 00 00009 00000\n" ++ letters "000001 A 00 00009 00007\n")))))))
 
+-- they are its listing
 abbrev pub WorkedListing : Type 0
 WorkedListing = listingOf bytes01 ≡ lines
 
@@ -43,12 +44,14 @@ said line p (suc k) = 10 * said line p k + (getD line (p + k) 0 - 48)
 abbrev pub allSaid : List ℕ → List ℕ
 allSaid line = said line 0 6 ∷ getD line 7 0 ∷ said line 9 2 ∷ said line 12 5 ∷ said line 18 5 ∷ []
 
+-- the record of each item says what the item is
 unfoldable pub EachSaid : ℕ → List Item → Type 0
 EachSaid number [] = Unit {0}
 EachSaid number (it ∷ its) =
     (allSaid (itemLine number it) ≡ number ∷ letterOf (it .kind) ∷ it .stream ∷ it .first ∷ it .width ∷ [])
     × EachSaid number its
 
+-- the records of an element say its items, or its refusal with letter X (88)
 abbrev pub Said : ℕ → Answer Applied → Type 0
 Said number (accepted a its n) = EachSaid number its
 Said number (rejected r its) =

@@ -14,6 +14,7 @@ use Rattle.capture.specs.Blocks.{blockRoom, blockText, blockEnd, isLast}
 use Rattle.listing_blocks.specs.declared.Block.{Block}
 use Rattle.listing_blocks.specs.Listing.{lineOf, letterOf, refusedLine, records}
 
+-- the record of an item as a map shows it
 abbrev pub lineBy : ℕ → Item → List ℕ
 lineBy number it = lineOf number (letterOf (it .kind)) (it .stream) (it .first) (it .width)
 
@@ -27,6 +28,7 @@ abbrev pub Within : Verdict → Type 0
 Within (Accepted items n sent) = items ≤ 1092
 Within (Refused x) = Unit {0}
 
+-- the records of an element, by its verdict and the map that its reading left
 abbrev pub verdictLines : ℕ → Verdict → List ℕ → List ℕ
 verdictLines number (Accepted items n sent) map = mapLines number map 0 items
 verdictLines number (Refused x) map = refusedLine number (x .number) (x .place) (x .fields)

@@ -29,12 +29,15 @@ lineOf number letter stream first width =
 abbrev pub kindLetters : List ℕ
 kindLetters = letters "?UCLPOA"
 
+-- of any other kind a question mark
 abbrev pub letterOf : ℕ → ℕ
 letterOf kind = getD kindLetters kind 63
 
+-- the record of an item,
 abbrev pub itemLine : ℕ → Item → List ℕ
 itemLine number it = lineOf number (letterOf (it .kind)) (it .stream) (it .first) (it .width)
 
+-- and of all items of an element
 unfoldable pub itemLines : ℕ → List Item → List ℕ
 itemLines number [] = []
 itemLines number (it ∷ its) = itemLine number it ++ itemLines number its

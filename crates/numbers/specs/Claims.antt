@@ -9,18 +9,20 @@ use Rattle.kernel.specs.Reading.{gave, run, Outcome, refused, stop}
 use Rattle.kernel.specs.Trip.{Reads}
 use Rattle.numbers.specs.Values.{latmGetValue, valueBits, groupsFrom, groupBits}
 
--- a number of 32 bits as it is written reads back, as a variable value and in groups,
+-- a number of 32 bits as it is written reads back, as a variable value,
 abbrev pub ValueReadsBack : Type 0
 ValueReadsBack = (v at : ℕ) → v < 2 ^ 32 → Reads Open at latmGetValue (valueBits v) v
 
+-- and in groups,
 abbrev pub GroupsReadBack : Type 0
 GroupsReadBack = (v at : ℕ) → v < 2 ^ 32 → Reads Open at (groupsFrom 4 0) (groupBits v) v
 
--- and is the shortest too
+-- and is the shortest too, as a variable value
 abbrev pub ValueIsShortest : Type 0
 ValueIsShortest =
     (s : List ℕ) (at n v to m : ℕ) → run s latmGetValue at n ≡ gave v to m → at + length (valueBits v) ≤ to
 
+-- and in groups
 abbrev pub GroupsAreShortest : Type 0
 GroupsAreShortest =
     (s : List ℕ) (at n v to m : ℕ) → run s (groupsFrom 4 0) at n ≡ gave v to m → at + length (groupBits v) ≤ to

@@ -18,6 +18,7 @@ use Rattle.walk.specs.Parts.{fronted}
 abbrev pub fixedBits : ℕ → ℕ → ℕ
 fixedBits kind fixed = cond (eqb kind 0) 0 (8 * (fixed + 20))
 
+-- of a stream
 abbrev pub fixedOf : Stream → ℕ
 fixedOf s = fixedBits (s .kind) (s .fixed)
 

@@ -17,9 +17,11 @@ use Rattle.reader.specs.declared.Prepared.{Prepared}
 use Rattle.reader.specs.declared.PreparedReply.{PreparedReply}
 use Rattle.reader.specs.Parts.{planOf}
 
+-- where nothing usable is held
 abbrev pub noPlan : Plan
 noPlan = record { slots = replicate 16 0; streams = 0; subframes = 0; other = false; bits = 0 }
 
+-- what readings need of what is held: whether it is usable, and the plan of its record
 unfoldable pub preparedOf : Held → Prepared
 preparedOf held = cond (usable held) (record { usable = true; plan = planOf (held .config) })
     (record { usable = false; plan = noPlan })
@@ -42,6 +44,7 @@ abbrev pub preparedAfter : Prepared → Answer Applied → Prepared
 preparedAfter p (accepted a its n) = cond (a .sent) (preparedOf (record { present = true; config = a .config })) p
 preparedAfter p (rejected r its) = p
 
+-- the verdict, what was sent, and what is then prepared, by the answer to an element
 abbrev pub repliedBy : Prepared → Answer Applied → PreparedReply
 repliedBy p x = record { verdict = verdictOf x; sent = sentBy x; prepared = preparedAfter p x }
 

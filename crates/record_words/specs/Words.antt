@@ -16,9 +16,11 @@ use Rattle.records.specs.Same.{formTag, formFreq, formPs}
 
 -- ---- the places: what a record has once, the layers of 16 programs, and last 16 streams
 
+-- the word of the first numLayer
 abbrev pub layersAt : ℕ
 layersAt = 10
 
+-- and the first word of the streams
 abbrev pub streamsAt : ℕ
 streamsAt = layersAt + 16
 
@@ -37,6 +39,7 @@ abbrev pub freqChoice : Freq → ℕ
 freqChoice (Index i) = 0
 freqChoice (Hz h) = 1
 
+-- the index, or the frequency
 abbrev pub freqNumber : Freq → ℕ
 freqNumber (Index i) = i
 freqNumber (Hz h) = h
@@ -45,6 +48,7 @@ freqNumber (Hz h) = h
 abbrev pub formWords : Form → List ℕ
 formWords f = formTag f ∷ freqChoice (formFreq f) ∷ freqNumber (formFreq f) ∷ formPs f ∷ []
 
+-- 14 words
 abbrev pub streamWords : Stream → List ℕ
 streamWords s =
     s .config .core
@@ -56,6 +60,7 @@ streamWords s =
     ∷ s .config .extension
     ∷ (formWords (s .config .form) ++ (s .kind ∷ s .fullness ∷ s .fixed ∷ []))
 
+-- of several streams
 unfoldable pub streamsWords : List Stream → List ℕ
 streamsWords [] = []
 streamsWords (s ∷ streams) = streamWords s ++ streamsWords streams
@@ -75,14 +80,17 @@ headWords r =
     ∷ r .crc
     ∷ []
 
+-- the words of a record
 abbrev pub wordsOf : Record → List ℕ
 wordsOf r = headWords r ++ (r .layers ++ streamsWords (r .streams))
 
 -- ---- the record of words
 
+-- a frequency by its choice and its number
 abbrev pub freqFrom : ℕ → ℕ → Freq
 freqFrom choice n = cond (eqb choice 0) (Index n) (Hz n)
 
+-- a form by its number, its frequency and its PS flag
 abbrev pub formFrom : ℕ → Freq → ℕ → Form
 formFrom tag x ps =
     cond (eqb tag 0) None (cond (eqb tag 1) (Type5 x)
@@ -105,12 +113,15 @@ streamFrom w = record {
   fixed = getD w 13 0;
 }
 
+-- the numLayer of 16 programs
 abbrev pub layersFrom : List ℕ → List ℕ
 layersFrom w = tab 16 λ p. getD w (layersAt + p) 0
 
+-- 16 streams
 abbrev pub streamsFrom : List ℕ → List Stream
 streamsFrom w = tab 16 λ i. streamFrom (drop (streamsAt + streamSize * i) w)
 
+-- the record that words are, whatever they hold behind it
 abbrev pub recordFrom : List ℕ → Record
 recordFrom w = record {
   version = getD w 0 0;

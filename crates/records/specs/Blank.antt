@@ -6,12 +6,15 @@ use Rattle.records.specs.declared.Config.{Config}
 use Rattle.records.specs.declared.Stream.{Stream}
 use Rattle.records.specs.declared.Record.{Record}
 
+-- of a configuration
 abbrev pub noConfig : Config
 noConfig = record { core = 0; freq = Index 0; channels = 0; flag = 0; depends = 0; extension = 0; form = None }
 
+-- of a stream
 abbrev pub noStream : Stream
 noStream = record { config = noConfig; kind = 0; fullness = 0; fixed = 0 }
 
+-- of a record: 16 programs and 16 streams of nothing
 abbrev pub noRecord : Record
 noRecord = record {
   version = 0;

@@ -41,13 +41,16 @@ abbrev pub validFixed : ℕ → ℕ → ℕ → Bool
 validFixed kind fullness fixed =
     (eqb kind 0 && leb fullness 255 && eqb fixed 0) || (eqb kind 1 && eqb fullness 0 && leb fixed 511)
 
+-- a stream that is sent
 abbrev pub validStream : ℕ → Stream → Bool
 validStream version s = validConfig version (s .config) && validFixed (s .kind) (s .fullness) (s .fixed)
 
+-- what stands where nothing is sent: of a frequency index 0,
 abbrev pub blankFreq : Freq → Bool
 blankFreq (Index i) = eqb i 0
 blankFreq (Hz h) = false
 
+-- of a form none,
 abbrev pub blankForm : Form → Bool
 blankForm None = true
 blankForm (Type5 x) = false
@@ -56,6 +59,7 @@ blankForm Flag0 = false
 blankForm (Flag1 x) = false
 blankForm (FlagPs x b) = false
 
+-- and of a stream 0 everywhere
 abbrev pub blankStream : Stream → Bool
 blankStream s =
     eqb (s .config .core) 0 && eqb (s .config .channels) 0 && eqb (s .config .flag) 0 && eqb (s .config .depends) 0
@@ -67,6 +71,7 @@ blankStream s =
 abbrev pub layerOk : ℕ → ℕ → ℕ → Bool
 layerOk n p x = cond (leb p n) (leb x 7) (eqb x 0)
 
+-- of all 16 programs
 abbrev pub layersOk : List ℕ → ℕ → Bool
 layersOk layers n = allOf 16 λ p. layerOk n p (getD layers p 0)
 
@@ -74,6 +79,7 @@ layersOk layers n = allOf 16 λ p. layerOk n p (getD layers p 0)
 abbrev pub streamOk : ℕ → ℕ → ℕ → Stream → Bool
 streamOk version k i s = cond (ltb i k) (validStream version s) (blankStream s)
 
+-- of all 16 streams
 abbrev pub streamsOk : ℕ → ℕ → List Stream → Bool
 streamsOk version k streams = allOf 16 λ i. streamOk version k i (getD streams i noStream)
 
@@ -83,6 +89,7 @@ headOk r =
     leb (r .version) 1 && eqb (r .subversion) 0 && (eqb (r .version) 1 || eqb (r .tara) 0) && eqb (r .framing) 1
     && leb (r .subframes) 63 && leb (r .programs) 15
 
+-- other data and checksum: flags of one bit, and 0 where they say that nothing is sent
 abbrev pub endingOk : Record → Bool
 endingOk r =
     leb (r .other) 1 && (eqb (r .other) 1 || eqb (r .bits) 0) && leb (r .checked) 1

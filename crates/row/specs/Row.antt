@@ -25,6 +25,7 @@ rates = 96000 ∷ 88200 ∷ 64000 ∷ 48000 ∷ 44100 ∷ 32000 ∷ 24000 ∷ 22
 abbrev pub hzAt : ℕ → ℕ
 hzAt i = getD rates i 0
 
+-- a frequency, by its index or as it is sent
 abbrev pub hzOf : Freq → ℕ
 hzOf (Index i) = hzAt i
 hzOf (Hz h) = h
@@ -33,6 +34,7 @@ hzOf (Hz h) = h
 abbrev pub noFlag : ℤ
 noFlag = negsuc 0
 
+-- SBR as a form signals it
 abbrev pub sbrOf : Form → ℤ
 sbrOf None = noFlag
 sbrOf (Type5 x) = pos 1
@@ -41,6 +43,7 @@ sbrOf Flag0 = pos 0
 sbrOf (Flag1 x) = pos 1
 sbrOf (FlagPs x b) = pos 1
 
+-- PS as a form signals it: only type 29 and a flag behind 0x548 do
 abbrev pub psOf : Form → ℤ
 psOf None = noFlag
 psOf (Type5 x) = noFlag
@@ -49,6 +52,7 @@ psOf Flag0 = noFlag
 psOf (Flag1 x) = noFlag
 psOf (FlagPs x b) = cond (eqb b 0) (pos 0) (pos 1)
 
+-- a flag was sent and is 1
 abbrev pub isOne : ℤ → Bool
 isOne (pos n) = eqb n 1
 isOne (negsuc n) = false
@@ -61,6 +65,7 @@ outputOf f core = cond (isOne (sbrOf f)) (hzOf (formFreq f)) core
 abbrev pub outputChannels : ℕ → ℕ
 outputChannels c = getD (0 ∷ 1 ∷ 2 ∷ 3 ∷ 4 ∷ 5 ∷ 6 ∷ 8 ∷ []) c 0
 
+-- the row of a stream that is layer l of program p
 abbrev pub rowOf : ℕ → ℕ → Stream → Row
 rowOf p l s = record {
   program = p;

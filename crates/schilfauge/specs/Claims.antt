@@ -45,19 +45,23 @@ NextFindsHeld = (s w : List ℕ) (room : ℕ) → heldIn (heldAfter w (answerIn 
 
 -- ---- where the number answered is not 0, all that is lent is as it stood (of `schilf_read`: Demands)
 
+-- of `schilf_hunt`
 abbrev pub HuntKeeps : Type 0
 HuntKeeps =
     (s : List ℕ) (start : ℕ) (found : List ℕ) (x : ℕ) (found′ : List ℕ) → HuntPromise s start found x found′
     → ¬ (x ≡ 0) → found′ ≡ found
 
+-- of `schilf_row`
 abbrev pub RowKeeps : Type 0
 RowKeeps =
     (r : Record) (p l : ℕ) (row : List ℤ) (x : ℕ) (row′ : List ℤ) → RowPromise r p l row x row′ → ¬ (x ≡ 0) → row′ ≡ row
 
+-- of `schilf_write`
 abbrev pub WriteKeeps : Type 0
 WriteKeeps = (w : Sent) (out : List ℕ) (size x : ℕ) (out′ : List ℕ) (size′ : ℕ)
     → WritePromise w out size x out′ size′ → ¬ (x ≡ 0) → (out′ ≡ out) × (size′ ≡ size)
 
+-- of `schilf_frame`
 abbrev pub FrameKeeps : Type 0
 FrameKeeps = (s out : List ℕ) (size x : ℕ) (out′ : List ℕ) (size′ : ℕ)
     → FramePromise s out size x out′ size′ → ¬ (x ≡ 0) → (out′ ≡ out) × (size′ ≡ size)
@@ -151,25 +155,30 @@ RefusedIs2Or19 = (s : List ℕ) (room : ℕ) (x : Refusal) → framedOf s room �
 
 -- ---- each promise allows one number, and one content of all that is lent
 
+-- of `schilf_hunt`
 abbrev pub HuntOnce : Type 0
 HuntOnce = (s : List ℕ) (start : ℕ) (found found₁ found₂ : List ℕ) (x y : ℕ)
     → HuntPromise s start found x found₁ → HuntPromise s start found y found₂ → (x ≡ y) × (found₁ ≡ found₂)
 
+-- of `schilf_read`
 abbrev pub ReadOnce : Type 0
 ReadOnce = (s w map w₁ w₂ map₁ map₂ told₁ told₂ : List ℕ) (x y : ℕ)
     → ReadPromise s w map x w₁ map₁ told₁ → ReadPromise s w map y w₂ map₂ told₂
     → (x ≡ y) × (w₁ ≡ w₂) × (map₁ ≡ map₂) × (told₁ ≡ told₂)
 
+-- of `schilf_row`
 abbrev pub RowOnce : Type 0
 RowOnce =
     (r : Record) (p l : ℕ) (row row₁ row₂ : List ℤ) (x y : ℕ) → RowPromise r p l row x row₁
     → RowPromise r p l row y row₂ → (x ≡ y) × (row₁ ≡ row₂)
 
+-- of `schilf_write`
 abbrev pub WriteOnce : Type 0
 WriteOnce = (w : Sent) (out out₁ out₂ : List ℕ) (size size₁ size₂ x y : ℕ)
     → WritePromise w out size x out₁ size₁ → WritePromise w out size y out₂ size₂
     → (x ≡ y) × (out₁ ≡ out₂) × (size₁ ≡ size₂)
 
+-- of `schilf_frame`
 abbrev pub FrameOnce : Type 0
 FrameOnce = (s out out₁ out₂ : List ℕ) (size size₁ size₂ x y : ℕ)
     → FramePromise s out size x out₁ size₁ → FramePromise s out size y out₂ size₂

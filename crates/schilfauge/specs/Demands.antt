@@ -17,12 +17,14 @@ use Rattle.element.specs.Left.{shown}
 use Rattle.schilfauge.specs.Lent.{answerIn, heldAfter, readNumber, answerWords}
 use Rattle.schilfauge.specs.Promises.{ReadPromise}
 
+-- what `schilf_read` leaves behind
 pub record Left : Type 0 where
   pub number : ℕ
   pub held : List ℕ
   pub map : List ℕ
   pub told : List ℕ
 
+-- by the answer to an element
 abbrev pub leftBy : List ℕ → List ℕ → Answer Applied → Left
 leftBy held map z =
     record {
@@ -41,12 +43,15 @@ leftOf s held map = leftBy held map (answerIn s held (length map))
 abbrev pub itemsTold : Left → ℕ
 itemsTold l = getD (l .told) 0 0
 
+-- the bit at which it was refused
 abbrev pub placeTold : Left → ℕ
 placeTold l = getD (l .told) 1 0
 
+-- the fields read
 abbrev pub fieldsTold : Left → ℕ
 fieldsTold l = getD (l .told) 2 0
 
+-- whether a configuration was sent
 abbrev pub sentTold : Left → ℕ
 sentTold l = getD (l .told) 3 0
 

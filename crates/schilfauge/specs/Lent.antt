@@ -30,6 +30,7 @@ use Rattle.writer.specs.Written.{Sent, toSend}
 
 -- ---- hunting
 
+-- 0, or the number of the refusal
 abbrev pub huntNumber : Hunted → ℕ
 huntNumber (hunted.Found place size) = 0
 huntNumber (hunted.Refused x) = x .number
@@ -63,6 +64,7 @@ abbrev pub keptAfter : List ℕ → Verdict → Record → List ℕ
 keptAfter w (Accepted items fields sent) r = cond sent (heldWords r) w
 keptAfter w (Refused x) r = w
 
+-- 0, or the number of the refusal
 abbrev pub readNumber : Verdict → ℕ
 readNumber (Accepted items fields sent) = 0
 readNumber (Refused x) = x .number
@@ -75,6 +77,7 @@ answerWords (Refused x) = 0 ∷ x .place ∷ x .fields ∷ 0 ∷ []
 
 -- ---- rows
 
+-- 0, or 16
 abbrev pub rowNumber : Record → ℕ
 rowNumber r = cond (validOf r) 0 16
 
@@ -103,6 +106,7 @@ rowAfter row r p l = cond (validOf r) (rowAt r (tableOf (r .layers) (r .programs
 abbrev pub sentIn : List ℕ → Bool → List ℕ → List ℕ → List ℕ → Sent
 sentIn w send lengths payload other = toSend (recordIn w) send lengths payload other
 
+-- 0, or the number of the refusal
 abbrev pub writeNumber : Written → ℕ
 writeNumber (written.Done n) = 0
 writeNumber (written.Refused x) = x .number
@@ -112,6 +116,7 @@ abbrev pub writtenAfter : ℕ → Written → ℕ
 writtenAfter size (written.Done n) = n
 writtenAfter size (written.Refused x) = size
 
+-- 0, or the number of the refusal
 abbrev pub frameNumber : Framed → ℕ
 frameNumber (framed.Done n) = 0
 frameNumber (framed.Refused x) = x .number

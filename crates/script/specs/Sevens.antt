@@ -6,6 +6,7 @@ use lib.Dec.{eqb}
 use lib.ListN.{length, getD}
 use Rattle.kernel.specs.Lists.{tab, allOf}
 
+-- n of them
 abbrev pub sevens : ℕ → List ℕ
 sevens n = tab n λ _. 7
 

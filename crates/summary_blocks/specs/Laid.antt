@@ -16,13 +16,16 @@ use Rattle.capture.specs.Blocks.{blockRoom, blockText, blockEnd, blockState, is
 use Rattle.summary_blocks.specs.declared.Block.{Block}
 use Rattle.summary_blocks.specs.Summary.{changes, firstWanting, refusalText, lines}
 
+-- of an accepted element
 abbrev pub acceptedBy : ℕ → Held → Bool → Record → List (List ℕ) → List ℕ
 acceptedBy element held sent r table = cond (changes held sent r) (programsText element r table 0 16) []
 
+-- of any element
 abbrev pub verdictText : ℕ → Held → Bool → Verdict → Record → List (List ℕ) → List ℕ
 verdictText element held said (Accepted items n sent) r table = acceptedBy element held sent r table
 verdictText element held said (Refused x) r table = refusalText element (firstWanting said x) x
 
+-- whether the want of a configuration was said, behind it
 abbrev pub verdictSaid : Bool → Verdict → Bool
 verdictSaid said (Accepted items n sent) = said
 verdictSaid said (Refused x) = said || firstWanting said x

@@ -19,6 +19,7 @@ use Rattle.capture.specs.Blocks.{Report, textOf}
 abbrev pub changes : Held → Bool → Record → Bool
 changes held sent r = sent && not (held .present && sameRecord (held .config) r)
 
+-- its rows, where it does
 abbrev pub acceptedText : ℕ → Held → Bool → Record → List ℕ
 acceptedText element held sent r = cond (changes held sent r) (rowsText element r) []
 
@@ -26,9 +27,11 @@ acceptedText element held sent r = cond (changes held sent r) (rowsText element 
 abbrev pub firstWanting : Bool → Refusal → Bool
 firstWanting said x = not said && eqb (x .number) 4
 
+-- that line
 abbrev pub wantingText : List ℕ
 wantingText = letters "no configuration yet: elements cannot be read until one is sent\n"
 
+-- the lines of a refused element
 abbrev pub refusalText : ℕ → Bool → Refusal → List ℕ
 refusalText element wanting x = cond wanting wantingText [] ++ refusedText element x
 
@@ -38,6 +41,7 @@ abbrev pub shown : ℕ → Held → Bool → Answer Applied → List ℕ
 shown element held said (accepted a its n) = acceptedText element held (a .sent) (a .config)
 shown element held said (rejected r its) = refusalText element (firstWanting said (r .refusal)) (r .refusal)
 
+-- whether the want of a configuration was said, behind an element
 abbrev pub saidAfter : Bool → Answer Applied → Bool
 saidAfter said (accepted a its n) = said
 saidAfter said (rejected r its) = said || firstWanting said (r .refusal)
@@ -56,10 +60,11 @@ headText =
     letters "element  program  layer  stream  core type    core Hz  output Hz"
     ++ letters "  SBR            PS             output channels\n"
 
--- what is said of a capture that has no frame, and of one that was cut off
+-- what is said of a capture that has no frame,
 abbrev pub noFrameText : List ℕ
 noFrameText = letters "no frame in this capture (refusal 20)\n"
 
+-- and of one that was cut off
 abbrev pub overText : List ℕ
 overText = letters "the capture is longer than 65536 bytes: only the first 65536 were read\n"
 

@@ -19,9 +19,11 @@ use Rattle.row.specs.Row.{rowIn}
 abbrev pub placeText : ℕ → ℕ → ℕ → ℕ → List ℕ
 placeText element program layer stream = number 7 element ++ (column 7 program ++ (column 5 layer ++ column 6 stream))
 
+-- a core type that has no name
 abbrev pub noType : List ℕ
 noType = letters "  ?         "
 
+-- core types 1 to 4 with their names
 abbrev pub types : List (List ℕ)
 types = noType ∷ letters "  1 AAC Main" ∷ letters "  2 AAC LC  " ∷ letters "  3 AAC SSR " ∷ letters "  4 AAC LTP " ∷ []
 
@@ -38,6 +40,7 @@ flagText (negsuc n) = letters "  not signalled"
 abbrev pub signalText : ℤ → ℤ → ℕ → List ℕ
 signalText sbr ps channels = flagText sbr ++ (flagText ps ++ (column 15 channels ++ letters "\n"))
 
+-- the line of a stream
 abbrev pub rowText : ℕ → ℕ → Row → List ℕ
 rowText element stream r =
     placeText element (r .program) (r .layer) stream ++
@@ -73,5 +76,6 @@ abbrev pub refusedWhyText : ℕ → ℕ → List ℕ
 refusedWhyText refusal count =
     letters "  fields read " ++ (number 5 count ++ (letters "  " ++ (wordsOf refusal ++ letters "\n")))
 
+-- the line of a refused element
 abbrev pub refusedText : ℕ → Refusal → List ℕ
 refusedText element x = refusedAtText element (x .number) (x .place) ++ refusedWhyText (x .number) (x .fields)

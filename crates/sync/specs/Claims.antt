@@ -66,21 +66,25 @@ RightIsFramed =
 
 -- and every other is refused: by 2 for its length, else by 19 for the room
 module _ (el : List ℕ) (room : ℕ) where
+  -- refusal m is given
   abbrev pub Gives : ℕ → Type 0
   Gives m = framedOf el room ≡ framed.Refused (unread m)
 
+  -- each of the two exactly where 01 says
   pub record RefusedExactly : Type 0 where
     pub for-2 : Exactly (Gives 2) ((length el ≡ 0) ⊎ (8191 < length el))
     pub for-19 : Exactly (Gives 19) ((1 ≤ length el) × (length el ≤ 8191) × (room < 3 + length el))
 
+-- so of every element and room
 abbrev pub RefusalsAreExact : Type 0
 RefusalsAreExact = (el : List ℕ) (room : ℕ) → RefusedExactly el room
 
--- what stood behind the frame stays, and a refusal leaves the whole output as it stood
+-- what stood behind the frame stays,
 abbrev pub BytesBehindStay : Type 0
 BytesBehindStay = (el out : List ℕ) (n : ℕ) → framedOf el (length out) ≡ framed.Done n
     → let out′ = outAfter el out (framedOf el (length out)) in (length out′ ≡ length out) × (drop n out′ ≡ drop n out)
 
+-- and a refusal leaves the whole output as it stood
 abbrev pub RefusalKeepsOutput : Type 0
 RefusalKeepsOutput =
     (el out : List ℕ) (x : Refusal) → framedOf el (length out) ≡ framed.Refused x

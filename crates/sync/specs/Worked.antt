@@ -15,6 +15,7 @@ none = Refused (unread 20)
 abbrev two : List ℕ
 two = 0x56 ∷ 0xE0 ∷ 0x01 ∷ 0xAA ∷ 0x56 ∷ 0xE0 ∷ 0x02 ∷ 0xBB ∷ 0xCC ∷ []
 
+-- each line a capture, a start, and what is found
 abbrev pub WorkedHunts : Type 0
 WorkedHunts =
     -- a frame at the very end

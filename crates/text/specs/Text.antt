@@ -6,6 +6,7 @@ use Prim.Native.Char.{code}
 use Prim.Native.String.{String, [] as empty, _∷_ as _then_}
 use lib.Dec.{eqb}
 
+-- the bytes of words
 abbrev pub letters : String → List ℕ
 letters empty = []
 letters (c then s) = code c ∷ letters s

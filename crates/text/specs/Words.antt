@@ -5,6 +5,7 @@ use Prim.Native.String.{String}
 use lib.ListN.{length, getD, replicate}
 use Rattle.text.specs.Text.{letters}
 
+-- for a number that no refusal has
 abbrev pub unknown : String
 unknown = "no such refusal"
 
@@ -34,6 +35,7 @@ refusals =
     ∷ "no frame at or after the start, or more than 65536 bytes"
     ∷ []
 
+-- the words of a refusal, in bytes
 abbrev pub wordsOf : ℕ → List ℕ
 wordsOf number = letters (getD refusals number unknown)
 

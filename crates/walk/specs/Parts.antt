@@ -21,6 +21,7 @@ abbrev pub toldPassage : {A : Type 0} → ℕ → Passage A → Told ℕ
 toldPassage k (came a its at n) = value (k + length its) at n
 toldPassage k (fell r its) = refusal (r .refusal)
 
+-- the items that a walk made
 abbrev pub made : {A : Type 0} → Passage A → List Item
 made (came a its at n) = its
 made (fell r its) = its
@@ -42,24 +43,28 @@ abbrev pub fronted : {A : Type 0} → Bool → ℕ → Passage A → Passage A
 fronted true at x = withItem (item fields kindU 0 0 1) (withItem (item fields kindC 0 1 (at - 1)) x)
 fronted false at x = withItem (item fields kindU 0 0 1) x
 
+-- their numbers in the map
 abbrev pub frontNumbers : Bool → ℕ → List ℕ
 frontNumbers true at = kindU ∷ 0 ∷ 0 ∷ 1 ∷ kindC ∷ 0 ∷ 1 ∷ (at - 1) ∷ []
 frontNumbers false at = kindU ∷ 0 ∷ 0 ∷ 1 ∷ []
 
+-- and how many they are
 abbrev pub frontCount : Bool → ℕ
 frontCount true = 2
 frontCount false = 1
 
--- the verdict and the map of a whole walk, in an element of so many bits
+-- the verdict of a whole walk, in an element of so many bits,
 abbrev pub verdictFrom : Bool → ℕ → Passage Unit → Verdict
 verdictFrom sent bits (came a its at n) =
     cond (eqb at bits) (Accepted (length its) n sent) (Refused (refusedAt 15 at n))
 verdictFrom sent bits (fell r its) = Refused (r .refusal)
 
+-- and its map: as it stood, unless the walk ends where the bytes do
 abbrev pub mapFrom : List ℕ → ℕ → Passage Unit → List ℕ
 mapFrom map bits (came a its at n) = cond (eqb at bits) (numbers its ++ drop (4 * length its) map) map
 mapFrom map bits (fell r its) = map
 
+-- what the walk's functions tell: the items that stand, with the bit reached and the fields read
 abbrev pub toldWalked : Walked → Told ℕ
 toldWalked (walked.Items k c) = value k (c .at) (c .fields)
 toldWalked (walked.Refused x) = refusal x

@@ -12,8 +12,10 @@ use Rattle.walk.specs.declared.Plan.{Plan}
 unfoldable pub slotBy : ℕ → Reading ℕ
 slotBy fixed = choose (eqb fixed 0) (muxSlotLengthBytes >>= λ v. give (8 * v)) (give fixed)
 
+-- of several streams
 abbrev pub slotsBy : List ℕ → List (Reading ℕ)
 slotsBy slots = map slotBy slots
 
+-- what follows the configuration, by a plan
 abbrev pub planned : Plan → Element Unit
 planned p = rest (p .subframes) (slotsBy (take (p .streams) (p .slots))) (p .other) (p .bits)

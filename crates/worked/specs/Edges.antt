@@ -92,6 +92,7 @@ single version tara other bits checked crc = record {
 abbrev narrow : Record
 narrow = versionOne 0 (replicate 16 0) (sizedBy 2 (Index 6) 1 0 255 ∷ replicate 15 noStream)
 
+-- the cases
 unfoldable pub edges : List Case
 edges =
     element wideBytes nothingHeld (Accepted 37 184 true) (holds wide) wideMap
@@ -161,5 +162,6 @@ edges =
     ∷ stopped (0x20 ∷ 0x00 ∷ 0x11 ∷ 0x90 ∷ 0x1F ∷ 0xF8 ∷ 0x04 ∷ 0x02 ∷ 0x01 ∷ 0x03 ∷ 0x00 ∷ []) 4368 (at 14 71 22)
     ∷ []
 
+-- all of them come out
 abbrev pub Edges : Type 0
 Edges = AllComeOut edges

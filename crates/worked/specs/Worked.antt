@@ -78,6 +78,7 @@ ComesOut (ascLen len s form sbr ps fill at n) =
     × (sbrOf form ≡ sbr) × (psOf form ≡ ps)
 ComesOut (refused len s r) = (told (run s latmGetValue 0 0) ≡ value len 10 2) × (told (run s windowed 0 0) ≡ refusal r)
 
+-- and all of several cases
 unfoldable pub AllComeOut : List Case → Type 0
 AllComeOut [] = Unit {0}
 AllComeOut (c ∷ cs) = ComesOut c × AllComeOut cs
@@ -86,13 +87,15 @@ AllComeOut (c ∷ cs) = ComesOut c × AllComeOut cs
 abbrev pub at : ℕ → ℕ → ℕ → Refusal
 at = refusedAt
 
+-- no flag was sent
 abbrev pub minusOne : ℤ
 minusOne = negsuc 0
 
--- the first element of the listing, and its configuration
+-- the first element of the listing,
 abbrev pub firstBytes : List ℕ
 firstBytes = 0x20 ∷ 0x00 ∷ 0x11 ∷ 0x90 ∷ 0x1F ∷ 0xE0 ∷ 0x15 ∷ 0x5E ∷ 0x68 ∷ []
 
+-- and its configuration
 abbrev pub first : Record
 first = record {
   version = 0;
@@ -132,6 +135,7 @@ versionOne programs layers streams = record {
   crc = 0;
 }
 
+-- its slots by length bytes, latmBufferFullness 255
 abbrev pub sized : Config → Stream
 sized config = record { config = config; kind = 0; fullness = 255; fixed = 0 }
 
@@ -169,6 +173,7 @@ figures p l core rate output sbr ps channels = record {
   channels = channels;
 }
 
+-- a record that is held
 abbrev pub holds : Record → Held
 holds r = record { present = true; config = r }
 
@@ -178,6 +183,7 @@ firstHeld = holds first
 abbrev firstNotHeld : Held
 firstNotHeld = record { present = false; config = first }
 
+-- the cases of document 01, and a stream of each form
 unfoldable pub table : List Case
 table =
     -- the first element of the listing: items U, C, L, P, A, 17 fields read
@@ -259,5 +265,6 @@ table =
     ∷ row forms 1 3 (figures 1 3 2 24001 48000 (pos 1) (pos 1) 1)
     ∷ []
 
+-- all of them come out
 abbrev pub Worked : Type 0
 Worked = AllComeOut table

@@ -50,6 +50,7 @@ two = record {
 abbrev twenty : List ℕ
 twenty = 1 ∷ 2 ∷ 3 ∷ 4 ∷ 5 ∷ 6 ∷ 7 ∷ 8 ∷ 9 ∷ 10 ∷ 11 ∷ 12 ∷ 13 ∷ 14 ∷ 15 ∷ 16 ∷ 17 ∷ 18 ∷ 19 ∷ 20 ∷ []
 
+-- what is to be written, the room, the answer, and the bytes
 abbrev pub WorkedWriting : Type 0
 WorkedWriting =
     -- document 01's two elements

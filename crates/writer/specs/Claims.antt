@@ -89,11 +89,12 @@ WrittenComesBack = (w : Sent) (out : List ℕ) (n : ℕ) → Typed (w .config) �
     → 4368 ≤ length map → (table : List (List ℕ))
     → ComesBack w (take n (outAfter w out (writtenOf w (length out)))) held map table
 
--- what stood behind the element stays, and a refusal leaves the whole output as it stood
+-- what stood behind the element stays,
 abbrev pub BytesBehindStay : Type 0
 BytesBehindStay = (w : Sent) (out : List ℕ) (n : ℕ) → writtenOf w (length out) ≡ Done n
     → let out′ = outAfter w out (writtenOf w (length out)) in (length out′ ≡ length out) × (drop n out′ ≡ drop n out)
 
+-- and a refusal leaves the whole output as it stood
 abbrev pub RefusalKeepsOutput : Type 0
 RefusalKeepsOutput =
     (w : Sent) (out : List ℕ) (x : Refusal) → writtenOf w (length out) ≡ Refused x
@@ -132,9 +133,11 @@ DoneIsRight = (w : Sent) (room n : ℕ) → writtenOf w room ≡ Done n
 
 -- each refusal is given exactly when 01 says, 16 before 17 before 18 before 19
 module _ (w : Sent) (room : ℕ) where
+  -- refusal m is given
   abbrev pub Gives : ℕ → Type 0
   Gives m = writtenOf w room ≡ Refused (unread m)
 
+  -- each of the four
   pub record RefusedExactly : Type 0 where
     pub for-16 : Exactly (Gives 16) (validOf (w .config) ≡ false)
     pub for-17 : Exactly (Gives 17) ((validOf (w .config) ≡ true) × (¬ RightSizes w))
@@ -142,6 +145,7 @@ module _ (w : Sent) (room : ℕ) where
     pub for-19 : Exactly (Gives 19) ((validOf (w .config) ≡ true) × RightSizes w × (sizeOf w ≤ 8191)
         × (room < sizeOf w))
 
+-- so of all that is to be written, and every room
 abbrev pub RefusalsAreExact : Type 0
 RefusalsAreExact = (w : Sent) (room : ℕ) → RefusedExactly w room
 

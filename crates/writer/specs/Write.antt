@@ -18,6 +18,7 @@ use Rattle.writer.specs.Written.{Sent, sumOf, elementBits, sizeOf}
 abbrev pub slotFits : Stream → ℕ → Bool
 slotFits s n = eqb (s .kind) 0 || eqb n (s .fixed + 20)
 
+-- each of a row of slots does
 unfoldable pub rowFits : List Stream → List ℕ → Bool
 rowFits [] ns = true
 rowFits (s ∷ ss) ns = slotFits s (getD ns 0 0) && rowFits ss (drop 1 ns)

@@ -18,9 +18,11 @@ pub record Piece : Type 0 where
   pub stream : ℕ
   pub bits : List Bool
 
+-- a piece by its content, kind, stream and bits
 abbrev pub piece : Content → ℕ → ℕ → List Bool → Piece
 piece c kind stream b = record { content = c; kind = kind; stream = stream; bits = b }
 
+-- the bits of pieces one after the other
 unfoldable pub bitsIn : List Piece → List Bool
 bitsIn [] = []
 bitsIn (p ∷ ps) = p .bits ++ bitsIn ps
@@ -30,11 +32,12 @@ unfoldable pub itemsAt : ℕ → List Piece → List Item
 itemsAt at [] = []
 itemsAt at (p ∷ ps) = item (p .content) (p .kind) (p .stream) at (length (p .bits)) ∷ itemsAt (at + length (p .bits)) ps
 
--- MuxSlotLengthBytes of n bytes: 255 as often as it goes, and what is left
+-- k bytes of 255
 unfoldable pub onesBits : ℕ → List Bool
 onesBits zero = []
 onesBits (suc k) = bitsOf 8 255 ⧺ onesBits k
 
+-- MuxSlotLengthBytes of n bytes: 255 as often as it goes, and what is left
 unfoldable pub lengthBits : ℕ → List Bool
 lengthBits n = onesBits (n / 255) ⧺ bitsOf 8 (n % 255)
 
@@ -70,6 +73,7 @@ subframePieces (suc n) ss ns payload =
 abbrev pub otherPieces : Record → List ℕ → List Piece
 otherPieces r other = cond (eqb (r .other) 1) (piece (passed closed) kindO 0 (take (r .bits) (unpack other)) ∷ []) []
 
+-- the configuration, where it is sent
 abbrev pub configPieces : Bool → Record → List Piece
 configPieces send r = cond send (piece fields kindC 0 (muxBits r) ∷ []) []
 
@@ -81,6 +85,7 @@ pub record Sent : Type 0 where
   pub payload : List ℕ
   pub other : List ℕ
 
+-- the same by its five parts
 abbrev pub toSend : Record → Bool → List ℕ → List ℕ → List ℕ → Sent
 toSend r send lengths payload other =
     record { config = r; send = send; lengths = lengths; payload = payload; other = other }
@@ -97,9 +102,11 @@ contentPieces w =
 abbrev pub alignment : ℕ → Piece
 alignment at = piece (passed spare) kindA 0 (bitsOf ((8 - at % 8) % 8) 0)
 
+-- all of an element
 abbrev pub pieces : Sent → List Piece
 pieces w = contentPieces w ++ (alignment (length (bitsIn (contentPieces w))) ∷ [])
 
+-- and its bits
 abbrev pub elementBits : Sent → List Bool
 elementBits w = bitsIn (pieces w)
 
