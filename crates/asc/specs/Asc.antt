@@ -108,7 +108,7 @@ tail win = do
   p ← here
   choose (leb 16 (left win p)) (syncExtension win) (give None)
 
--- as it is written: nothing but where the form stands behind 0x2B7
+-- as it is written: nothing, unless the form stands behind 0x2B7
 unfoldable pub tailBits : Form → List Bool
 tailBits None = []
 tailBits (Type5 x) = []

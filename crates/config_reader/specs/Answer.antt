@@ -25,7 +25,7 @@ abbrev pub FewPrograms : Headed → Type 0
 FewPrograms (headed.Value r) = (r .head .programs ≤ 15) × (r .head .subframes ≤ 63)
 FewPrograms (headed.Refused x) = Unit {0}
 
--- of what stands behind them
+-- of what stands behind the programs
 abbrev pub toldEnded : Ended → Told Ending
 toldEnded (ended.Value r) = value (r .ending) (r .next .at) (r .next .fields)
 toldEnded (ended.Refused x) = refusal x

@@ -1,4 +1,4 @@
--- How far a reading has come: each call of a reader is one step here, so a proof is as long as its function.
+-- How far a reading has come: each call of a reader is one step here, so a proof goes along with its function.
 use mathlib.Core.Path.{_≡_, refl, ap, sym, _∙_}
 use mathlib.Core.Bool.{Bool, true, false}
 use mathlib.Core.List.{List}

@@ -16,11 +16,11 @@ use Rattle.capture.specs.Blocks.{blockRoom, blockText, blockEnd, blockState, is
 use Rattle.summary_blocks.specs.declared.Block.{Block}
 use Rattle.summary_blocks.specs.Summary.{changes, firstWanting, refusalText, lines}
 
--- of an accepted element
+-- the lines of an accepted element
 abbrev pub acceptedBy : ℕ → Held → Bool → Record → List (List ℕ) → List ℕ
 acceptedBy element held sent r table = cond (changes held sent r) (programsText element r table 0 16) []
 
--- of any element
+-- and of any element
 abbrev pub verdictText : ℕ → Held → Bool → Verdict → Record → List (List ℕ) → List ℕ
 verdictText element held said (Accepted items n sent) r table = acceptedBy element held sent r table
 verdictText element held said (Refused x) r table = refusalText element (firstWanting said x) x

@@ -6,7 +6,7 @@ use lib.ListN.{length, drop, take}
 use borrow.Author.Needs.{needs}
 use Rattle.kernel.specs.Element.{closed}
 use Rattle.element.specs.Mux.{payloadMux}
-use Rattle.walk.proofs.Goes.{Going, going-itself, going-on, going-off, going-done}
+use Rattle.walk.proofs.Way.{Going, going-itself, going-on, going-off, going-done}
 use Rattle.walk.proofs.Goes.{payloads-none, payloads-more}
 use Rattle.walk.proofs.payloads_of.Statement.{statement}
 use Rattle.walk.proofs.payloads_of.Tie as tie

@@ -6,7 +6,7 @@ use denote.Ref.{now}
 use borrow.Author.Needs.{needs}
 use Rattle.element.specs.Mux.{rest}
 use Rattle.walk.specs.Plan.{planned}
-use Rattle.walk.proofs.Goes.{Way, outset, step, falls, arrives}
+use Rattle.walk.proofs.Way.{Way, outset, step, falls, arrives}
 use Rattle.walk.proofs.rest_of.Statement.{statement}
 use Rattle.walk.proofs.rest_of.Tie as tie
 

@@ -12,7 +12,8 @@ use Rattle.kernel.proofs.Chain.{Comes, got, steady}
 use Rattle.kernel.proofs.There.{ahead}
 use Rattle.element.specs.Mux.{payloadLengthInfo, subframe, kindL}
 use Rattle.walk.specs.Plan.{slotsBy}
-use Rattle.walk.proofs.Goes.{goes-itself, goes-part, forward, goes-from, stop-is, most-more, stored-item}
+use Rattle.walk.proofs.Goes.{goes-itself, goes-part, forward, goes-from, stop-is, stored-item}
+use Rattle.walk.proofs.Way.{most-more}
 use Rattle.walk.proofs.subframe_of.Statement.{statement}
 use Rattle.walk.proofs.subframe_of.Tie as tie
 

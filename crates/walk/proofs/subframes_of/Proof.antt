@@ -5,7 +5,7 @@ use lib.ListN.{take}
 use borrow.Author.Needs.{needs}
 use Rattle.element.specs.Mux.{subframes}
 use Rattle.walk.specs.Plan.{slotsBy}
-use Rattle.walk.proofs.Goes.{Going, going-itself, going-on, going-off, going-done}
+use Rattle.walk.proofs.Way.{Going, going-itself, going-on, going-off, going-done}
 use Rattle.walk.proofs.Goes.{subframes-none, subframes-more}
 use Rattle.walk.proofs.subframes_of.Statement.{statement}
 use Rattle.walk.proofs.subframes_of.Tie as tie
