@@ -1,6 +1,6 @@
 #!/usr/bin/env python3
 """Lays out, field by field, the elements of crates/worked/specs/Edges.antt and the whole elements of Worked.antt behind
-01's own two, and sees that they stand there with the verdict and the map that the layout gives:
+01's own two, and sees that they stand there with the verdict, the map and the rows that the layout gives:
 
     python3 tests/edge_cases.py            # 'N cases stand in the definitions'
     python3 tests/edge_cases.py --print    # prints the cases as they stand there
@@ -10,6 +10,7 @@ import pathlib
 import re
 import sys
 
+from expected import figures
 from layout import Audio, Element, Hz, Index, Layer, Mux
 
 SPECS = pathlib.Path(__file__).resolve().parent.parent / "crates" / "worked" / "specs"
@@ -28,6 +29,13 @@ def accepted(e):
     cases.append(data_of(e))
     cases.append(f"Accepted {len(e.items)} {e.count} true")
     cases.append(listed(str(number) for item in e.items for number in item))
+
+
+def rows(name, mux):
+    said = {1: "(pos 1)", 0: "(pos 0)", -1: "minusOne"}
+    for program, layer, core, hz, output, sbr, ps, channels in figures(mux):
+        row = f"{program} {layer} {core} {hz} {output} {said[sbr]} {said[ps]} {channels}"
+        cases.append(f"row {name} {program} {layer} (figures {row})")
 
 
 def stopped(e, number, place, count, bits=None):
@@ -54,8 +62,16 @@ def one(audio, type=0, value=255, **more):
     return Mux(((Layer(audio, type, value),),), **more)
 
 
+def of_form(channels, form, extension):
+    return one(Audio(frequency=Index(6), channels=channels, form=form, extension=extension), version=1)
+
+
 def mono(form="none", extension=None):
-    return one(Audio(frequency=Index(6), channels=1, form=form, extension=extension), version=1)
+    return of_form(1, form, extension)
+
+
+def stereo(form, extension):
+    return of_form(2, form, extension)
 
 
 def refused(number, name, mux, nth=0, more=0, **ways):
@@ -64,7 +80,7 @@ def refused(number, name, mux, nth=0, more=0, **ways):
 
 
 # 01's ascLen cases: the bits of 0x2B7, type 5, flag 1, index 3 (and 0x548, 1) in windows of several lengths
-FLAG, PS = mono("flag 1", Index(3)), mono("flag 1 PS 1", Index(3))
+FLAG, PS = mono("flag 1", Index(3)), mono("flag 1 with PS 1", Index(3))
 for length, mux, ways in [
     (37, FLAG, {}),
     (36, FLAG, {"asc_len": {0: 36}}),
@@ -87,15 +103,26 @@ streams = [
     Layer(Audio(frequency=Index(i), channels=c, form=f, extension=None if x is None else Index(x)))
     for i, c, f, x in forms
 ]
-streams.append(Layer(Audio(frequency=Index(8), channels=1, form="flag 1 PS 0", extension=Hz(32001))))
-streams.append(Layer(Audio(frequency=Hz(24001), channels=1, form="flag 1 PS 1", extension=Index(3))))
-accepted(whole(Mux((tuple(streams[:3]), tuple(streams[3:])), version=1), [b""] * 7))
+streams.append(Layer(Audio(frequency=Index(8), channels=1, form="flag 1 with PS 0", extension=Hz(32001))))
+streams.append(Layer(Audio(frequency=Hz(24001), channels=1, form="flag 1 with PS 1", extension=Index(3))))
+mux = Mux((tuple(streams[:3]), tuple(streams[3:])), version=1)
+accepted(whole(mux, [b""] * 7))
+rows("forms", mux)
+
+# PS over one channel, and over two
+rows("(mono (Flag1 (Index 3)))", FLAG)
+rows("(mono None)", mono())
+rows("(mono (FlagPs (Index 3) 1))", PS)
+rows("(stereo (FlagPs (Index 3) 1))", stereo("flag 1 with PS 1", Index(3)))
+rows("(stereo (Type29 (Index 3)))", stereo("type 29", Index(3)))
 
 # 16 streams and two subframes: every core type, frequency and channel configuration; the last has slots of 20 bytes
 rates = [Index(i) for i in range(13)] + [Hz(1), Hz(0xFFFFFF), Index(0)]
 audios = [Audio(core=i % 4 + 1, frequency=rates[i], channels=i % 7 + 1, frame_length_flag=i % 2) for i in range(16)]
 streams = [Layer(audio, 0, 17 * i) for i, audio in enumerate(audios[:15])] + [Layer(audios[15], 1, 0)]
-accepted(whole(Mux((tuple(streams[:8]), tuple(streams[8:])), subframes=2), [b""] * 15 + [bytes(range(20))]))
+mux = Mux((tuple(streams[:8]), tuple(streams[8:])), subframes=2)
+accepted(whole(mux, [b""] * 15 + [bytes(range(20))]))
+rows("wide", mux)
 
 # other data in two groups, and in values of two bytes; an extension type that says nothing
 STEREO = Audio()

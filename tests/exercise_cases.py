@@ -5,7 +5,7 @@ document 01 asks for:
     (cd tests/second && cargo build --offline --release)
     python3 tests/exercise_cases.py tests/second/target/release/second
 
-First come elements that are laid out here field by field, or copied from document 01 with its answers, and hunts.
+First come elements that are laid out here field by field, or copied from document 01 with its answers, rows and hunts.
 Nothing here reads an element: the place, width and count of each item are known because it was laid out here, and the
 second program must answer the same. Then come cases that the second program makes from fixed seeds, with its answers.
 """
@@ -13,7 +13,8 @@ import pathlib
 import subprocess
 import sys
 
-from layout import Audio, Element, Index, Layer, Mux, held_element, sent_element
+from expected import figures
+from layout import Audio, Element, Hz, Index, Layer, Mux, held_element, sent_element
 
 RECORD_WORDS = 250
 HELD_BYTES = 1 + 4 * RECORD_WORDS  # whether one is held, and its words
@@ -61,6 +62,12 @@ def held(fixed, *subframes):
 
 def sent(layers, fixed, subframes, **more):
     return sent_element(record(layers, fixed, len(subframes), **more), subframes)
+
+
+def rows(mux):
+    """The configuration is sent, and the rows of what is then held."""
+    good(sent_element(mux, [[1] * len(mux.streams)]), True)
+    cases.append((b"W", "".join("row " + " ".join(map(str, row)) + "\n" for row in figures(mux))))
 
 
 def no_room(*parts, size=0):
@@ -176,6 +183,21 @@ case(longest.data()[:-1], refused(3, 45 + 8 * 32, 16 + 32))
 case(LISTED, refused(1, 0, 0), room=4367)
 case(b"", refused(1, 0, 0), room=0)
 case(bytes.fromhex("80 00"), accepted([(1, 0, 0, 1), (3, 0, 1, 8), (4, 0, 9, 0), (6, 0, 9, 7)], 2, False), room=4400)
+
+# rows: each form over one channel, and PS over more
+OVER_ONE = [Layer(Audio(2, Index(6), 1, form, Index(3))) for form in ("type 29", "type 5", "flag 1 with PS 1")]
+OVER_ONE += [Layer(Audio(2, Hz(24001), 1, form, Hz(48002))) for form in ("flag 1 with PS 0", "flag 1")]
+OVER_ONE += [Layer(Audio(2, Index(6), 1, form)) for form in ("flag 0", "none")]
+OVER_MORE = [Layer(Audio(2, Index(6), 1 + i, "type 29", Index(3))) for i in range(1, 7)]
+FLAGGED = [Layer(Audio(2, Index(6), i, "flag 1 with PS 1", Index(3))) for i in (2, 4, 7)]
+rows(Mux((tuple(OVER_ONE), tuple(OVER_MORE), tuple(FLAGGED)), version=1))
+rows(Mux((tuple(OVER_ONE[:2]), tuple(OVER_ONE[-1:] + OVER_MORE))))
+
+# a PS flag of 2 over one channel, which 16 refuses, counts as 1 (docs/SCRIPT.md)
+WORDS = [1, 0, 0, 1] + [0] * 22 + [2, 0, 6, 1, 0, 0, 0, 5, 0, 3, 2, 0, 255, 0]
+WORDS += [0] * (RECORD_WORDS - len(WORDS))
+cases.append((b"H\1" + b"".join(word.to_bytes(4, "big") for word in WORDS), ""))
+cases.append((b"W", "row 0 0 2 24000 48000 1 1 2\n"))
 
 # a frame at the very end of the longest capture, and one byte more
 FRAME = bytes.fromhex("56 E0 02 80 00")

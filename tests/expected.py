@@ -108,17 +108,21 @@ def line(*columns):
     return "  ".join(format(column, form) for column, form in zip(columns, COLUMNS.values()))
 
 
-def rows(element, record):
-    stream = 0
+def figures(record):
+    """The row of each stream: program, layer, core type, core and output Hz, SBR, PS, output channels."""
     for program, layers in enumerate(record.programs):
         for layer in range(len(layers)):
             audio = layers[layer].audio
             sbr, ps = SIGNALLED[audio.form]
             output = audio.extension if sbr == 1 else audio.frequency
-            core = f"{audio.core} {CORES[audio.core]}"
-            said = SIGNS[sbr], SIGNS[ps], CHANNELS[audio.channels]
-            yield line(element, program, layer, stream, core, audio.frequency.hz, output.hz, *said)
-            stream += 1
+            channels = 2 if ps == 1 and audio.channels == 1 else CHANNELS[audio.channels]
+            yield program, layer, audio.core, audio.frequency.hz, output.hz, sbr, ps, channels
+
+
+def rows(element, record):
+    for stream, (program, layer, core, hz, output, sbr, ps, channels) in enumerate(figures(record)):
+        core = f"{core} {CORES[core]}"
+        yield line(element, program, layer, stream, core, hz, output, SIGNS[sbr], SIGNS[ps], channels)
 
 
 def summary(pieces):

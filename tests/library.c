@@ -1,6 +1,6 @@
 /* Calls every function of the library as a C caller does: document 01's worked elements, a record by the names of its
  * words, refusals (of a reading 1 to 4 and 15), words that are no record's, and that a refused call leaves what was
- * lent as it stood, save a reading's answer. Expected values are 01's, or follow from it. */
+ * lent as it stood, save a reading's answer. Expected values are 01's (with C-11 of 02), or follow from it. */
 #include <stdio.h>
 #include <string.h>
 
@@ -91,6 +91,20 @@ static void reads(void)
     refused("4, a record that 16 refuses", second, 2, words, SCHILF_MAP_WORDS, 4, 0, 1);
 }
 
+/* The row of what is held, but in version 1 and with this form of SBR and PS over a channel configuration. */
+static void row_of_form(const char *what, uint32_t configuration, uint32_t form, uint32_t flag, int64_t sbr, int64_t ps,
+                        int64_t channels)
+{
+    bool extended = form == 1 || form == 2 || form >= 4;
+    const int64_t expected[] = {0, 0, 0, 2, 48000, extended ? 96000 : 48000, sbr, ps, channels};
+    uint32_t words[SCHILF_HELD_WORDS], *const stream = words + SCHILF_STREAM_AT(0);
+    int64_t row[SCHILF_ROW_WORDS] = {0};
+    memcpy(words, held, sizeof words);
+    words[SCHILF_RECORD_VERSION] = 1, stream[SCHILF_STREAM_CHANNELS] = configuration;
+    stream[SCHILF_STREAM_FORM] = form, stream[SCHILF_STREAM_PS] = flag;
+    check(what, schilf_row(words, 0, 0, row) == 0 && memcmp(row, expected, sizeof row) == 0);
+}
+
 static void rows(void)
 {
     static const int64_t expected[] = {0, 0, 0, 2, 48000, 48000, -1, -1, 2};
@@ -104,6 +118,16 @@ static void rows(void)
     check("no such layer", schilf_row(held, 0, 1, row) == 0 && memcmp(row, absent, sizeof row) == 0);
     check("no such program",
           schilf_row(held, UINT32_MAX, UINT32_MAX, row) == 0 && memcmp(row, absent, sizeof row) == 0);
+
+    row_of_form("one channel, type 29", 1, 2, 0, 1, 1, 2);
+    row_of_form("one channel, PS flag 1", 1, 5, 1, 1, 1, 2);
+    row_of_form("one channel, PS flag 0", 1, 5, 0, 1, 0, 1);
+    row_of_form("one channel, type 5", 1, 1, 0, 1, -1, 1);
+    row_of_form("one channel, flag 1", 1, 4, 0, 1, -1, 1);
+    row_of_form("one channel, flag 0", 1, 3, 0, 0, -1, 1);
+    row_of_form("one channel, no flag", 1, 0, 0, -1, -1, 1);
+    row_of_form("two channels, type 29", 2, 2, 0, 1, 1, 2);
+    row_of_form("eight channels, PS flag 1", 7, 5, 1, 1, 1, 8);
 }
 
 /* The output, and whether only its first `count` bytes are other than before. */

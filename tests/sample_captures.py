@@ -140,6 +140,43 @@ def signalling():
     yield held(mixed, range(2, 9))
 
 
+def type_29_mono():
+    radio = Audio(2, Index(6), 1, "type 29", Index(3))
+    yield sent(one(radio), [57])
+    yield from (held(one(radio), [size]) for size in (61, 54, 0, 255))
+    yield sent(one(radio), [58])
+    # type 5 in front says nothing of PS, so the one channel stays; over configuration 2 there are two anyway
+    yield sent(one(replace(radio, form="type 5")), [59])
+    yield held(one(replace(radio, form="type 5")), [60])
+    yield sent(one(replace(radio, channels=2)), [62])
+    # in version 1, over another core and 24 bits; in two programs, the second as the stream before
+    yield sent(v1(radio), [63])
+    yield sent(v1(Audio(4, Hz(24001), 1, "type 29", Hz(48002))), [64])
+    both = Mux(((Layer(radio),), (Layer(radio, 1, 5), Layer(replace(radio, form="type 5")))))
+    yield sent(both, [65, 0, 66])
+    yield held(both, [67, 0, 68])
+
+
+def ps_flag_mono():
+    flagged = Audio(2, Index(6), 1, "flag 1 with PS 1", Index(3))
+    yield sent(v1(flagged), [57])
+    yield from (held(v1(flagged), [size]) for size in (61, 54, 0, 255))
+    yield sent(v1(flagged), [58], tails={0: ((), (9, 1))})
+    # PS denied, PS not signalled, SBR denied, neither signalled: the one channel stays
+    yield sent(v1(replace(flagged, form="flag 1 with PS 0")), [59])
+    yield sent(v1(replace(flagged, form="flag 1")), [60])
+    yield sent(v1(replace(flagged, form="flag 0", extension=None)), [61])
+    yield sent(v1(replace(flagged, form="none", extension=None)), [62])
+    # 11 bits are left behind the extension frequency: 0x548 is not looked for
+    yield sent(v1(replace(flagged, form="flag 1")), [63], tails={0: ((), (11, 0x548))})
+    # over each other configuration: its own channels
+    yield sent(Mux((tuple(Layer(replace(flagged, channels=i)) for i in range(1, 8)),), version=1), range(7))
+    # in two programs, the second as the stream before
+    both = Mux(((Layer(flagged),), (Layer(flagged, 1, 5), Layer(replace(flagged, form="flag 1")))), version=1)
+    yield sent(both, [64, 0, 65])
+    yield held(both, [66, 0, 67])
+
+
 def subframes():
     def sizes(count, seed, streams):
         return [[(seed + 5 * s + 3 * i) % 11 for i in range(streams)] for s in range(count)]
@@ -320,6 +357,8 @@ samples = {
     "worked": WORKED,
     "two-programmes": list(two_programmes()),
     "signalling": list(signalling()),
+    "type-29-mono": list(type_29_mono()),
+    "ps-flag-mono": list(ps_flag_mono()),
     "subframes": list(subframes()),
     "blocks": list(blocks()),
     "damaged": list(damaged()) + [CUT_FRAME],

@@ -1,9 +1,10 @@
 -- The figures of a valid record's rows.
 use mathlib.Core.Path.{_≡_, refl}
-use mathlib.Core.Bool.{Bool, true, false, _&&_}
+use mathlib.Core.Bool.{Bool, true, false, cond, _&&_}
 use Prim.Native.Nat.{ℕ, _+_, _≤_, _<_}
 use native.Mathlib.Omega.{arith}
 use lib.ListN.{getD}
+use lib.IntN.{ℤ}
 use lib.Dec.{leb, eqb}
 use borrow.Author.Tests.{leb-true, leb-false}
 use Rattle.kernel.specs.Lists.{allOf}
@@ -18,9 +19,9 @@ use Rattle.records.specs.Table.{streamsIn}
 use Rattle.records.specs.Valid.{validFreq, validForm, validConfig, validFixed, validStream}
 use Rattle.records.proofs.Apart.{config-ok, record-ok}
 use Rattle.records.proofs.Tables.{streams-next, streams-upto}
-use Rattle.row.specs.Row.{hzAt, hzOf, outputOf, outputChannels, rowOf}
+use Rattle.row.specs.Row.{hzAt, hzOf, isOne, psOf, outputOf, channelsAt, outputChannels, rowOf}
 use Rattle.row.specs.Claims.{Carried, RowsAreCarried}
-use Rattle.row.proofs.Rows.{few-channels}
+use Rattle.row.proofs.Channels.{few-channels}
 
 abbrev Carries : ℕ → Type 0
 Carries hz = (1 ≤ hz) × (hz < 16777216)
@@ -44,12 +45,22 @@ output-carried version core Flag0 h c = c
 output-carried version core (Flag1 x) h c = freq-carried x (both (eqb version 1) (validFreq x) h .1)
 output-carried version core (FlagPs x b) h c = freq-carried x (three (eqb version 1) (validFreq x) (leb b 1) h .1)
 
-channels-carried : (c : ℕ) → 1 ≤ c → c ≤ 7 → (1 ≤ outputChannels c) × (outputChannels c ≤ 8)
-channels-carried c lo hi = go (leb c 6) refl
+abbrev Few : ℕ → Type 0
+Few channels = (1 ≤ channels) × (channels ≤ 8)
+
+own-carried : (c : ℕ) → 1 ≤ c → c ≤ 7 → Few (channelsAt c)
+own-carried c lo hi = go (leb c 6) refl
   where
-    go : (t : Bool) → leb c 6 ≡ t → (1 ≤ outputChannels c) × (outputChannels c ≤ 8)
+    go : (t : Bool) → leb c 6 ≡ t → Few (channelsAt c)
     go true e = let q = few-channels c (leb-true c 6 e) in (omega arith, omega arith)
     go false e = let q : c ≡ 7 = omega (arith, leb-false c 6 e) in rw q (omega arith, omega arith)
+
+channels-carried : (ps : ℤ) (c : ℕ) → 1 ≤ c → c ≤ 7 → Few (outputChannels ps c)
+channels-carried ps c lo hi = go (isOne ps && eqb c 1)
+  where
+    go : (t : Bool) → Few (cond t 2 (channelsAt c))
+    go true = (omega arith, omega arith)
+    go false = own-carried c lo hi
 
 stream-carried : (version p l : ℕ) (s : Stream) → p < 16 → l < 8 → validStream version s ≡ true → Carried (rowOf p l s)
 stream-carried version p l s hp hl h =
@@ -63,7 +74,8 @@ stream-carried version p l s hp hl h =
       core = c .core;
       rate = f;
       output = output-carried version (hzOf (s .config .freq)) (s .config .form) (c .form) f;
-      channels = channels-carried (s .config .channels) (c .channels .0) (c .channels .1);
+      channels =
+          channels-carried (psOf (s .config .form)) (s .config .channels) (c .channels .0) (c .channels .1);
     }
 
 pub row-carried : RowsAreCarried

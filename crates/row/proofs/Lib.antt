@@ -1,3 +1,4 @@
+pub mod Channels
 pub mod Rows
 pub mod Carried
 pub mod Theorems

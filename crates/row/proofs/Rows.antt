@@ -1,10 +1,9 @@
--- Laws of rows: the channels by ranges, and the cell and the row found in a record's own table.
-use mathlib.Core.Path.{_≡_, refl, sym, _∙_}
+-- Laws of rows: the cell and the row found in a record's own table.
+use mathlib.Core.Path.{_≡_, refl, _∙_}
 use mathlib.Core.Bool.{Bool, true, false, cond}
-use mathlib.Core.List.{[], _∷_}
-use Prim.Native.Nat.{ℕ, zero, suc, _+_, _<_, _≤_}
+use Prim.Native.Nat.{ℕ, _+_, _<_, _≤_}
 use native.Mathlib.Omega.{arith}
-use lib.ListN.{getD, List·getD-eq-default}
+use lib.ListN.{getD}
 use lib.Dec.{ltb}
 use borrow.Author.Tests.{lt-ltb, ltb-true, le-leb}
 use Rattle.records.specs.declared.Record.{Record}
@@ -14,23 +13,8 @@ use Rattle.records.specs.Valid.{validOf}
 use Rattle.records.proofs.Apart.{record-ok}
 use Rattle.records.proofs.Tables.{cell-at, cell-there, streams-next, streams-upto}
 use Rattle.row.specs.declared.Rowed.the-variants.{Is, Absent}
-use Rattle.row.specs.Row.{outputChannels, rowOf, numbered, rowIn}
+use Rattle.row.specs.Row.{rowOf, numbered, rowIn}
 use Rattle.row.specs.Claims.{IsThere, cellIn}
-
-pub few-channels : (c : ℕ) → c ≤ 6 → c ≡ outputChannels c
-few-channels zero h = refl
-few-channels (suc zero) h = refl
-few-channels (suc (suc zero)) h = refl
-few-channels (suc (suc (suc zero))) h = refl
-few-channels (suc (suc (suc (suc zero)))) h = refl
-few-channels (suc (suc (suc (suc (suc zero))))) h = refl
-few-channels (suc (suc (suc (suc (suc (suc zero)))))) h = refl
-few-channels (suc (suc (suc (suc (suc (suc (suc n))))))) h = omega arith
-
-pub past-channels : (c : ℕ) → 8 ≤ c → 0 ≡ outputChannels c
-past-channels c h = sym (List·getD-eq-default (0 ∷ 1 ∷ 2 ∷ 3 ∷ 4 ∷ 5 ∷ 6 ∷ 8 ∷ []) 0 h)
-
--- ---- in the record's own table
 
 module _ (r : Record) (p l : ℕ) where
   abbrev first : ℕ

@@ -1,6 +1,8 @@
 -- The theorem of each claim of specs/Claims.antt.
 use Rattle.row.specs.Claims.{CellsNumbered, CellsOther, RowsFound, RowsAbsent, EachLayerIsThere, RowsAreCarried}
+use Rattle.row.specs.Claims.{ChannelsDiffer}
 use Rattle.row.proofs.Rows.{cell-of, cell-other, row-there, row-absent, layer-there}
+use Rattle.row.proofs.Channels.{channels-told}
 use Rattle.row.proofs.Carried.{row-carried}
 
 pub cells-numbered : CellsNumbered
@@ -20,3 +22,6 @@ each-layer-is-there = layer-there
 
 pub rows-are-carried : RowsAreCarried
 rows-are-carried = row-carried
+
+pub channels-differ : ChannelsDiffer
+channels-differ = channels-told

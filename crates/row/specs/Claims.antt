@@ -4,13 +4,16 @@ use mathlib.Core.Bool.{true}
 use mathlib.Core.List.{[]}
 use Prim.Native.Nat.{ℕ, _+_, _<_, _≤_}
 use lib.ListN.{getD}
+use lib.IntN.{pos}
+use Rattle.kernel.specs.Exactly.{Exactly}
+use Rattle.records.specs.declared.Stream.{Stream}
 use Rattle.records.specs.declared.Record.{Record}
 use Rattle.records.specs.Blank.{noStream}
 use Rattle.records.specs.Table.{shareOf, streamsIn, tableOf}
 use Rattle.records.specs.Valid.{validOf}
 use Rattle.row.specs.declared.Row.{Row}
 use Rattle.row.specs.declared.Rowed.the-variants.{Is, Absent}
-use Rattle.row.specs.Row.{rowOf, rowIn}
+use Rattle.row.specs.Row.{channelsAt, rowOf, rowIn}
 
 -- program p has a layer l, and its stream is one of 16
 abbrev pub IsThere : Record → ℕ → ℕ → Type 0
@@ -57,3 +60,13 @@ pub record Carried (x : Row) : Type 0 where
 abbrev pub RowsAreCarried : Type 0
 RowsAreCarried = (r : Record) (p l : ℕ) → validOf r ≡ true → p ≤ r .programs → l ≤ getD (r .layers) p 0
     → Carried (rowOf p l (getD (r .streams) (streamsIn (r .layers) (r .programs) p + l) noStream))
+
+-- the row x of a stream of channel configuration c: it has other channels than the configuration exactly where PS is 1
+-- and the configuration is 1, and two there
+pub record ChannelsTold (x : Row) (c : ℕ) : Type 0 where
+  pub differ : Exactly (¬ (x .channels ≡ channelsAt c)) ((x .ps ≡ pos 1) × (c ≡ 1))
+  pub two : x .ps ≡ pos 1 → c ≡ 1 → x .channels ≡ 2
+
+-- of every stream, also of a record that 16 refuses
+abbrev pub ChannelsDiffer : Type 0
+ChannelsDiffer = (p l : ℕ) (s : Stream) → ChannelsTold (rowOf p l s) (s .config .channels)

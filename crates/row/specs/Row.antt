@@ -1,5 +1,5 @@
 -- The row of a stream: what the probe shows of it.
-use mathlib.Core.Bool.{Bool, false, cond}
+use mathlib.Core.Bool.{Bool, false, cond, _&&_}
 use mathlib.Core.List.{List, [], _∷_}
 use Prim.Native.Nat.{ℕ}
 use lib.ListN.{getD}
@@ -62,8 +62,12 @@ abbrev pub outputOf : Form → ℕ → ℕ
 outputOf f core = cond (isOne (sbrOf f)) (hzOf (formFreq f)) core
 
 -- the channels of configurations 1 to 7, and 0 of any other
-abbrev pub outputChannels : ℕ → ℕ
-outputChannels c = getD (0 ∷ 1 ∷ 2 ∷ 3 ∷ 4 ∷ 5 ∷ 6 ∷ 8 ∷ []) c 0
+abbrev pub channelsAt : ℕ → ℕ
+channelsAt c = getD (0 ∷ 1 ∷ 2 ∷ 3 ∷ 4 ∷ 5 ∷ 6 ∷ 8 ∷ []) c 0
+
+-- two where PS is 1 over channel configuration 1, else those of the configuration
+abbrev pub outputChannels : ℤ → ℕ → ℕ
+outputChannels ps c = cond (isOne ps && eqb c 1) 2 (channelsAt c)
 
 -- the row of a stream that is layer l of program p
 abbrev pub rowOf : ℕ → ℕ → Stream → Row
@@ -75,7 +79,7 @@ rowOf p l s = record {
   output = outputOf (s .config .form) (hzOf (s .config .freq));
   sbr = sbrOf (s .config .form);
   ps = psOf (s .config .form);
-  channels = outputChannels (s .config .channels);
+  channels = outputChannels (psOf (s .config .form)) (s .config .channels);
 }
 
 -- the row of stream number i of a record, where there is one

@@ -3,7 +3,7 @@ ghost use mathlib.Core.Path.{_≡_};
 ghost use mathlib.Core.List.{[]};
 ghost use Prim.Native.Nat.{_<_};
 ghost use lib.ListN.{getD};
-ghost use Rattle.row.specs.Row.{hzAt, hzOf, sbrOf, psOf, outputOf, outputChannels, rowOf, rowIn};
+ghost use Rattle.row.specs.Row.{hzAt, hzOf, sbrOf, psOf, outputOf, channelsAt, outputChannels, rowOf, rowIn};
 use records::Form;
 use records::Freq;
 use records::Record;
@@ -18,7 +18,7 @@ pub struct Row {
     pub output: u32, // Hz of the output
     pub sbr: i32,
     pub ps: i32,
-    pub channels: u32, // of the output
+    pub channels: u32, // of the output: two where PS is 1 over channel configuration 1
 }
 
 // The row of a program's layer, where there is such a layer.
@@ -101,14 +101,27 @@ fn output_of(f: Form, core: u32) -> u32
     }
 }
 
-fn output_channels(c: u32) -> u32
-    ensures { λ r. ⌜ r ≡ outputChannels c ⌝ }
+fn channels_at(c: u32) -> u32
+    ensures { λ r. ⌜ r ≡ channelsAt c ⌝ }
 {
     match c {
         1..=6 => c,
         7 => 8,
         _ => 0,
     }
+}
+
+fn output_channels(ps: i32, c: u32) -> u32
+    ensures { λ r. ⌜ r ≡ outputChannels ps c ⌝ }
+{
+    let own = channels_at(c);
+    if ps != 1 {
+        return own;
+    }
+    if c != 1 {
+        return own;
+    }
+    2
 }
 
 fn stream_row(program: u32, layer: u32, s: Stream) -> Row
@@ -121,7 +134,7 @@ fn stream_row(program: u32, layer: u32, s: Stream) -> Row
     let output = output_of(f, rate);
     let sbr = sbr_of(f);
     let ps = ps_of(f);
-    let channels = output_channels(c.channels);
+    let channels = output_channels(ps, c.channels);
     Row {
         program: program,
         layer: layer,

@@ -36,4 +36,4 @@ worked =
     & (refl, refl, refl, refl, refl) & (refl, refl) & (refl, refl, refl, refl, refl) & (refl, refl)
     & (refl, refl, refl, refl, refl) & (refl, refl, refl, refl, refl)
     & (refl, refl) & refl & (refl, refl) & (refl, refl) & refl & (refl, refl) & (refl, refl) & refl & (refl, refl)
-    & (refl, refl) & refl & refl & refl & refl & refl & refl & refl & tt
+    & (refl, refl) & refl & refl & refl & refl & refl & refl & refl & refl & refl & tt

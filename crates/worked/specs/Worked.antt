@@ -139,8 +139,14 @@ versionOne programs layers streams = record {
 abbrev pub sized : Config → Stream
 sized config = record { config = config; kind = 0; fullness = 255; fixed = 0 }
 
+abbrev oneStream : Config → Record
+oneStream config = versionOne 0 (replicate 16 0) (sized config ∷ replicate 15 noStream)
+
 abbrev mono : Form → Record
-mono form = versionOne 0 (replicate 16 0) (sized (monoOf form) ∷ replicate 15 noStream)
+mono form = oneStream (monoOf form)
+
+abbrev stereo : Form → Record
+stereo form = oneStream (configOf (Index 6) 2 form)
 
 -- a stream of each form, in two programs of three and four layers
 abbrev pub forms : Record
@@ -245,24 +251,28 @@ table =
     ∷ []) nothingHeld
     (Accepted 5 28 true) (holds (mono (FlagPs (Index 3) 1)))
     (1 ∷ 0 ∷ 0 ∷ 1 ∷ 2 ∷ 0 ∷ 1 ∷ 98 ∷ 3 ∷ 0 ∷ 99 ∷ 8 ∷ 4 ∷ 0 ∷ 107 ∷ 8 ∷ 6 ∷ 0 ∷ 115 ∷ 5 ∷ [])
-    ∷ row (mono (FlagPs (Index 3) 1)) 0 0 (figures 0 0 2 24000 48000 (pos 1) (pos 1) 1)
+    ∷ row (mono (FlagPs (Index 3) 1)) 0 0 (figures 0 0 2 24000 48000 (pos 1) (pos 1) 2)
     -- 48
     ∷ element (0x40 ∷ 0x04 ∷ 0x00 ∷ 0x01 ∷ 0x80 ∷ 0x98 ∷ 0x42 ∷ 0xB7 ∷ 0x2C ∷ 0xEA ∷ 0x40 ∷ 0xFF ∷ 0x00 ∷ 0x6A ∷ 0xC0
     ∷ []) nothingHeld
     (Accepted 5 26 true) (holds (mono (Flag1 (Index 3))))
     (1 ∷ 0 ∷ 0 ∷ 1 ∷ 2 ∷ 0 ∷ 1 ∷ 97 ∷ 3 ∷ 0 ∷ 98 ∷ 8 ∷ 4 ∷ 0 ∷ 106 ∷ 8 ∷ 6 ∷ 0 ∷ 114 ∷ 6 ∷ [])
-    -- a stream of each form, all without payload, and their rows
+    -- a stream of each form, all without payload, and their rows: PS over one channel gives two where type 29 or a flag
+    -- of 1 says so, and type 5, a flag of 0 and no flag leave it one
     ∷ element formsBytes nothingHeld (Accepted 11 120 true) (holds forms) (
     1 ∷ 0 ∷ 0 ∷ 1 ∷ 2 ∷ 0 ∷ 1 ∷ 466 ∷ 3 ∷ 0 ∷ 467 ∷ 56 ∷ 4 ∷ 0 ∷ 523 ∷ 0 ∷ 4 ∷ 1 ∷ 523 ∷ 0 ∷ 4 ∷ 2 ∷ 523 ∷ 0
     ∷ 4 ∷ 3 ∷ 523 ∷ 0 ∷ 4 ∷ 4 ∷ 523 ∷ 0 ∷ 4 ∷ 5 ∷ 523 ∷ 0 ∷ 4 ∷ 6 ∷ 523 ∷ 0 ∷ 6 ∷ 0 ∷ 523 ∷ 5 ∷ []
     )
     ∷ row forms 0 0 (figures 0 0 2 48000 48000 minusOne minusOne 2)
     ∷ row forms 0 1 (figures 0 1 2 24000 48000 (pos 1) minusOne 1)
-    ∷ row forms 0 2 (figures 0 2 2 22050 44100 (pos 1) (pos 1) 1)
+    ∷ row forms 0 2 (figures 0 2 2 22050 44100 (pos 1) (pos 1) 2)
     ∷ row forms 1 0 (figures 1 0 2 24000 24000 (pos 0) minusOne 1)
     ∷ row forms 1 1 (figures 1 1 2 24000 48000 (pos 1) minusOne 1)
     ∷ row forms 1 2 (figures 1 2 2 16000 32001 (pos 1) (pos 0) 1)
-    ∷ row forms 1 3 (figures 1 3 2 24001 48000 (pos 1) (pos 1) 1)
+    ∷ row forms 1 3 (figures 1 3 2 24001 48000 (pos 1) (pos 1) 2)
+    -- PS over two channels leaves them two
+    ∷ row (stereo (Type29 (Index 3))) 0 0 (figures 0 0 2 24000 48000 (pos 1) (pos 1) 2)
+    ∷ row (stereo (FlagPs (Index 3) 1)) 0 0 (figures 0 0 2 24000 48000 (pos 1) (pos 1) 2)
     ∷ []
 
 -- all of them come out

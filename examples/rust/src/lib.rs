@@ -88,7 +88,8 @@ pub struct Accepted {
     pub sent: bool,
 }
 
-/// What a record says of one stream. SBR and PS are none where the configuration sent no flag.
+/// What a record says of one stream. SBR and PS are none where the configuration sent no flag; channels are those of
+/// the output, two where PS is signalled over channelConfiguration 1.
 #[derive(Clone, Copy, Debug, PartialEq, Eq)]
 pub struct Row {
     pub stream: i64,

@@ -3,7 +3,7 @@
 use crate::read::{read, Reading};
 use crate::record::Record;
 use crate::refusal::Refusal;
-use crate::rows::{rows_of_any, Row};
+use crate::rows::{self, rows_of_any, Row};
 use crate::script::{Case, Cases};
 use crate::sync::{hunt, write_frame};
 use crate::write::{write, Order};
@@ -26,6 +26,19 @@ pub fn counts(script: &[u8]) -> [usize; 21] {
         }
     }
     counts
+}
+
+/// How many of the rows answered have two channels by PS over one.
+pub fn two_by_ps(script: &[u8]) -> usize {
+    let mut held = Held::default();
+    let mut count = 0;
+    for case in Cases::new(script) {
+        if case == Case::Rows {
+            count += rows::two_by_ps(&held.record);
+        }
+        held.answer(case);
+    }
+    count
 }
 
 /// How many cases of each kind there are, in the order of docs/SCRIPT.md.

@@ -7,6 +7,7 @@ use crate::layout::{lay_out, Name, Sheet};
 use crate::random::Random;
 use crate::read::LONGEST_ELEMENT;
 use crate::record::{Record, Stream, LAYERS};
+use crate::rows;
 use crate::sync::{write_frame, HEADER, LONGEST_CAPTURE};
 
 /// The one slot that makes an element of one stream as long as can be, when no
@@ -35,6 +36,15 @@ pub fn counts(capture: &[u8]) -> [usize; 21] {
         counts[usize::from(number)] += 1;
     }
     counts
+}
+
+/// How many rows of a capture's summary have two channels by PS over one.
+pub fn two_by_ps(capture: &[u8]) -> usize {
+    Capture::new(capture)
+        .filter(|step| step.changed)
+        .filter_map(|step| step.outcome.ok())
+        .map(|reading| rows::two_by_ps(&reading.held))
+        .sum()
 }
 
 /// A good element: its record, its slot lengths and its cells.

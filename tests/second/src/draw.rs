@@ -16,6 +16,8 @@ const VARIABLE_EDGES: [u64; 9] = [
     0xFFFF_FFFF,
 ];
 const SLOT_EDGES: [u64; 8] = [0, 1, 20, 254, 255, 256, 510, 511];
+/// Channel configurations; 1 more often, since PS changes what it gives.
+const CHANNELS: [u64; 10] = [1, 1, 1, 1, 2, 3, 4, 5, 6, 7];
 
 pub fn record(random: &mut Random) -> Record {
     let mut record = Record {
@@ -112,7 +114,7 @@ fn audio_config(version: u64, random: &mut Random) -> AudioConfig {
     AudioConfig {
         core_type: random.between(1, 4),
         frequency: frequency(random),
-        channels: random.between(1, 7),
+        channels: random.pick(&CHANNELS),
         form: form(version, random),
         frame_length_flag: random.below(2),
         ..AudioConfig::default()
@@ -127,8 +129,9 @@ fn frequency(random: &mut Random) -> Frequency {
     }
 }
 
+/// A PS flag twice as often as another form of version 1: it is 0 or 1.
 fn form(version: u64, random: &mut Random) -> Form {
-    let forms = if version == 0 { 3 } else { 6 };
+    let forms = if version == 0 { 3 } else { 7 };
     match random.below(forms) {
         0 => Form::None,
         1 => Form::Type5(frequency(random)),

@@ -1,4 +1,5 @@
-//! A second program for LOAS/LATM captures; reading, hunting, rows and writing are from document 01 alone.
+//! A second program for LOAS/LATM captures; reading, hunting and writing are from document 01 alone, rows
+//! from document 01 and C-11 of document 02.
 //! It shares no code with the library and is there to be compared with it.
 
 pub mod answers;

@@ -81,19 +81,23 @@ fn seed(text: &str) -> Result<u64, String> {
 }
 
 fn counts(seeds: &[String]) -> Result<String, String> {
+    let [rows] = sums(seeds, |seed| [cases::two_by_ps(&cases::capture(seed))])?;
     let sums = sums(seeds, |seed| cases::counts(&cases::capture(seed)))?;
-    Ok(format!("accepted    {:>7}\n", sums[0]) + &refused_lines(&sums[..16], 2))
+    let accepted = format!("accepted    {:>7}\n", sums[0]);
+    Ok(accepted + &refused_lines(&sums[..16], 2) + &two_by_ps_line(rows))
 }
 
 fn count_script(seeds: &[String]) -> Result<String, String> {
+    let [rows] = sums(seeds, |seed| [answers::two_by_ps(&maker::script(seed))])?;
     let sums = sums(seeds, |seed| answers::counts(&maker::script(seed)))?;
-    Ok(refused_lines(&sums, 1))
+    Ok(refused_lines(&sums, 1) + &two_by_ps_line(rows))
 }
 
 fn count_input(script: &[u8]) -> String {
     let kinds =
         answers::kinds(script).map(|(kind, count)| format!("kind {kind}      {count:>7}\n"));
-    kinds.concat() + &refused_lines(&answers::counts(script), 1)
+    let refused = refused_lines(&answers::counts(script), 1);
+    kinds.concat() + &refused + &two_by_ps_line(answers::two_by_ps(script))
 }
 
 fn case(number: &str) -> Result<Vec<u8>, String> {
@@ -111,8 +115,11 @@ fn differ(file: &str) -> Result<(), String> {
     }
 }
 
-fn sums(seeds: &[String], counts: impl Fn(u64) -> [usize; 21]) -> Result<[usize; 21], String> {
-    let mut sums = [0; 21];
+fn sums<const N: usize>(
+    seeds: &[String],
+    counts: impl Fn(u64) -> [usize; N],
+) -> Result<[usize; N], String> {
+    let mut sums = [0; N];
     for text in seeds {
         sums.iter_mut()
             .zip(counts(seed(text)?))
@@ -126,4 +133,8 @@ fn refused_lines(sums: &[usize], first: usize) -> String {
     numbered
         .map(|(number, sum)| format!("refused {number:>2}  {sum:>7}\n"))
         .collect()
+}
+
+fn two_by_ps_line(rows: usize) -> String {
+    format!("two by PS   {rows:>7}\n")
 }

@@ -205,7 +205,7 @@ impl Maker {
         self.hold(true, &record);
         let element = lay_out(&good.record, false, &good.lengths, &mut self.random);
         self.read(ENOUGH, element.bytes());
-        if self.random.once_in(3) && rows_are_clear(&record) {
+        if rows_are_clear(&record) {
             self.put(Case::Rows);
         }
         let mut content = self.content(&good);

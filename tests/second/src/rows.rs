@@ -53,6 +53,13 @@ pub fn rows_of_any(record: &Record) -> Vec<Row> {
         .collect()
 }
 
+/// How many rows have two channels because PS is 1 over channel configuration 1.
+pub fn two_by_ps(record: &Record) -> usize {
+    let rows = rows_of_any(record);
+    let over_one = |row: &&Row| row.ps == 1 && record.streams[row.stream].audio.channels == 1;
+    rows.iter().filter(over_one).count()
+}
+
 fn row(record: &Record, table: &Table, program: usize, layer: usize) -> Option<Row> {
     let stream = table[program][layer];
     if stream == NO_STREAM {
@@ -69,7 +76,7 @@ fn row(record: &Record, table: &Table, program: usize, layer: usize) -> Option<R
         output_hertz: output_hertz(audio),
         sbr,
         ps,
-        output_channels: channels(audio.channels),
+        output_channels: output_channels(audio.channels, ps),
     })
 }
 
@@ -97,8 +104,9 @@ fn hertz(frequency: Frequency) -> u64 {
     frequency.hertz().unwrap_or(0)
 }
 
-fn channels(configuration: u64) -> u64 {
+fn output_channels(configuration: u64, ps: i8) -> u64 {
     match configuration {
+        1 if ps == 1 => 2,
         1..=6 => configuration,
         7 => 8,
         _ => 0,

@@ -2,13 +2,14 @@
 
 mod common;
 
-use common::refusal;
+use common::{meet_ps_over_each, refusal};
 use second::capture::Capture;
-use second::cases::{capture, counts, good, Good};
+use second::cases::{capture, counts, good, two_by_ps, Good};
 use second::damage::{self, REFUSED_BY};
 use second::layout::Name;
 use second::random::Random;
 use second::read::{read, Item, Kind, MAP_NUMBERS};
+use second::record::Record;
 use second::sync::LONGEST_CAPTURE;
 
 fn expected_items(good: &Good) -> Vec<Item> {
@@ -203,4 +204,19 @@ fn captures_hold_the_largest_elements() {
     assert!(readings().any(|reading| reading.items.len() == 1092));
     let end = |items: &[Item]| items.last().map(|item| item.first + item.width);
     assert!(readings().any(|reading| end(&reading.items) == Some(8 * 8191)));
+}
+
+#[test]
+fn five_captures_show_ps_over_each_configuration() {
+    let captures: Vec<Vec<u8>> = (1..=5).map(capture).collect();
+    let shown: Vec<Record> = captures
+        .iter()
+        .flat_map(|bytes| Capture::new(bytes))
+        .filter(|step| step.changed)
+        .filter_map(|step| step.outcome.ok())
+        .map(|reading| reading.held)
+        .collect();
+    meet_ps_over_each(&shown);
+    let rows: usize = captures.iter().map(|bytes| two_by_ps(bytes)).sum();
+    assert!(rows >= 50, "{rows}");
 }

@@ -115,13 +115,6 @@ fn object_type_31_takes_six_more_bits() {
     refuse_end(&short, "more", 10);
 }
 
-fn layered(outer: u64) -> Vec<Field> {
-    let mut audio = CORE.to_vec();
-    audio[0].1 = outer;
-    audio.splice(3..3, [("extension index", 3, 4), ("core", 2, 5)]);
-    audio
-}
-
 #[test]
 fn core_types_under_5_and_29() {
     for (outer, flags) in [(5, (1, -1)), (29, (1, 1))] {

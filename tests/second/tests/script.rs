@@ -2,8 +2,8 @@
 
 mod common;
 
-use common::{concat, first_worked, held_by, Draft, CORE, PS, SBR, WORKED};
-use second::answers::{alone, answers, counts, difference};
+use common::{concat, first_worked, held_by, meet_ps_over_each, Draft, CORE, PS, SBR, WORKED};
+use second::answers::{alone, answers, counts, difference, two_by_ps};
 use second::broken;
 use second::draw;
 use second::maker::script;
@@ -182,7 +182,7 @@ fn asc_len_through_answers() {
     let ps = Draft::version1(49, &concat(&[&CORE, &SBR, &PS]));
     for (draft, row) in [
         (&sbr, "row 0 0 2 24000 48000 1 -1 1\n"),
-        (&ps, "row 0 0 2 24000 48000 1 1 1\n"),
+        (&ps, "row 0 0 2 24000 48000 1 1 2\n"),
     ] {
         assert!(answer(&[read(&draft.bytes()), Case::Rows]).ends_with(row));
     }
@@ -213,6 +213,43 @@ fn rows_of_broken_records() {
         answer(&[hold(&record), Case::Rows]),
         "row 0 0 2 0 4294967295 1 1 0\n"
     );
+}
+
+/// A PS flag other than 0 counts as 1, so over configuration 1 it gives two channels.
+#[test]
+fn ps_over_one_in_broken_records() {
+    let ps = Draft::version1(49, &concat(&[&CORE, &SBR, &PS]));
+    let mut record = held_by(&ps.bytes());
+    let mut row = |version: u64, flag: u64, configuration: u64| {
+        record.version = version;
+        record.streams[0].audio.form = Form::SbrOnPs(Frequency::Index(3), flag);
+        record.streams[0].audio.channels = configuration;
+        assert!(!record.is_sendable());
+        answer(&[hold(&record), Case::Rows])
+    };
+    for flag in [2, 256, 0xFFFF_FFFF] {
+        for (configuration, channels) in [(0, 0), (1, 2), (2, 2), (3, 3), (7, 8), (8, 0)] {
+            let expected = format!("row 0 0 2 24000 48000 1 1 {channels}\n");
+            assert_eq!(row(1, flag, configuration), expected);
+        }
+    }
+    // A form after 0x2B7 in version 0.
+    assert_eq!(row(0, 2, 1), "row 0 0 2 24000 48000 1 1 2\n");
+    assert_eq!(row(0, 1, 1), "row 0 0 2 24000 48000 1 1 2\n");
+    assert_eq!(row(0, 0, 1), "row 0 0 2 24000 48000 1 0 1\n");
+}
+
+#[test]
+fn rows_of_two_channels_by_ps_are_counted() {
+    let sbr = Draft::version1(37, &concat(&[&CORE, &SBR]));
+    let ps = Draft::version1(49, &concat(&[&CORE, &SBR, &PS]));
+    let two = ps.clone().with("channels", 2);
+    let mut cases = vec![Case::Rows];
+    for draft in [&ps, &sbr, &ps, &two] {
+        cases.extend([read(&draft.bytes()), Case::Rows]);
+    }
+    assert_eq!(two_by_ps(&bytes(&cases)), 2);
+    assert_eq!(two_by_ps(&bytes(&[read(&ps.bytes())])), 0);
 }
 
 #[test]
@@ -348,28 +385,53 @@ fn a_case_alone_is_answered_as_among_the_others() {
     assert_eq!(alone(&script, count), None);
 }
 
+/// The records whose rows a script asks.
+fn asked(script: &[u8]) -> Vec<Record> {
+    let mut present = false;
+    let mut held = Record::default();
+    let mut asked = Vec::new();
+    for case in Cases::new(script) {
+        match case {
+            Case::Hold { present: p, record } => (present, held) = (p, *record),
+            Case::Read { room, element } => {
+                let reading =
+                    second::read::read(&element, present.then_some(&held), usize::from(room));
+                if let Some(reading) = reading.ok().filter(|reading| reading.sent) {
+                    (present, held) = (true, reading.held);
+                }
+            }
+            Case::Rows => asked.push(held.clone()),
+            _ => {}
+        }
+    }
+    asked
+}
+
 /// Where a numLayer above 7 is looked at, docs/SCRIPT.md says no rows.
 #[test]
 fn rows_are_asked_only_where_they_are_clear() {
     for seed in 1..=250 {
-        let mut present = false;
-        let mut held = Record::default();
-        for case in Cases::new(&script(seed)) {
-            match case {
-                Case::Hold { present: p, record } => (present, held) = (p, *record),
-                Case::Read { room, element } => {
-                    let reading =
-                        second::read::read(&element, present.then_some(&held), usize::from(room));
-                    if let Some(reading) = reading.ok().filter(|reading| reading.sent) {
-                        (present, held) = (true, reading.held);
-                    }
-                }
-                Case::Rows => {
-                    let programs = held.num_layer.iter().take(held.num_program as usize + 1);
-                    assert!(programs.max() < Some(&8), "seed {seed}");
-                }
-                _ => {}
-            }
+        for record in asked(&script(seed)) {
+            let programs = record
+                .num_layer
+                .iter()
+                .take(record.num_program as usize + 1);
+            assert!(programs.max() < Some(&8), "seed {seed}");
         }
     }
+}
+
+#[test]
+fn five_scripts_ask_ps_over_each_configuration() {
+    let scripts: Vec<Vec<u8>> = (1..=5).map(script).collect();
+    let records: Vec<Record> = scripts.iter().flat_map(|script| asked(script)).collect();
+    meet_ps_over_each(&records);
+    assert!(scripts.iter().all(|script| two_by_ps(script) >= 5));
+    let wide = |record: &Record| {
+        record.streams.iter().any(|stream| {
+            stream.audio.channels == 1
+                && matches!(stream.audio.form, Form::SbrOnPs(_, flag) if flag > 1)
+        })
+    };
+    assert!(records.iter().any(wide));
 }

@@ -1,4 +1,4 @@
-//! The worked values of document 01.
+//! The worked values of document 01, their output channels with C-11 of document 02.
 
 mod common;
 
@@ -154,6 +154,7 @@ fn asc_len_37_has_sbr() {
         (row.sbr, row.ps, row.core_hertz, row.output_hertz),
         (1, -1, 24000, 48000)
     );
+    assert_eq!(row.output_channels, 1);
 }
 
 #[test]
@@ -170,7 +171,8 @@ fn asc_len_36_and_32_are_passed() {
 fn asc_len_31_is_fill() {
     let reading = accept(&with_sbr(31));
     assert_eq!(reading.held.streams[0].audio.form, Form::None);
-    assert_eq!(rows(&reading.held)[0].sbr, -1);
+    let row = &rows(&reading.held)[0];
+    assert_eq!((row.sbr, row.ps, row.output_channels), (-1, -1, 1));
     assert_eq!(reading.items[1].width, 36 + 31 + 11 + 2);
     assert_eq!(reading.fields, 17 + 5);
 }
@@ -180,6 +182,7 @@ fn asc_len_49_has_ps() {
     let reading = accept(&with_ps(49));
     let row = &rows(&reading.held)[0];
     assert_eq!((row.sbr, row.ps, row.output_hertz), (1, 1, 48000));
+    assert_eq!(row.output_channels, 2);
     assert_eq!(reading.fields, 23 + 5);
 }
 
@@ -188,6 +191,7 @@ fn asc_len_48_is_fill() {
     let reading = accept(&with_ps(48));
     let row = &rows(&reading.held)[0];
     assert_eq!((row.sbr, row.ps, row.output_hertz), (1, -1, 48000));
+    assert_eq!(row.output_channels, 1);
     assert_eq!(reading.fields, 21 + 5);
 }
 

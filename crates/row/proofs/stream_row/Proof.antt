@@ -15,11 +15,11 @@ returns c =
     let es : toZ w32 (ofZ w32 (s .sbr-of .result)) ≡ s .sbr-of .result = search needs in
     let ep : toZ w32 (ofZ w32 (p .ps-of .result)) ≡ p .ps-of .result = search needs in
     rw (
+      c .output-channels .ensures,
       es,
       ep,
       s .sbr-of .ensures,
       p .ps-of .ensures,
-      c .output-channels .ensures,
       o .output-of .ensures,
       h .hz-of .ensures,
     )

@@ -3,8 +3,9 @@
 
 use second::bits::Pen;
 use second::read::{read, Reading, MAP_NUMBERS};
-use second::record::Record;
+use second::record::{Form, Record};
 use second::refusal::Refusal;
+use second::rows::rows_of_any;
 
 pub type Field = (&'static str, u64, u64);
 
@@ -120,6 +121,14 @@ pub fn concat(parts: &[&[Field]]) -> Vec<Field> {
     parts.concat()
 }
 
+/// The core under type 5 or 29, extension index 3: 25 bits.
+pub fn layered(outer: u64) -> Vec<Field> {
+    let mut audio = CORE.to_vec();
+    audio[0].1 = outer;
+    audio.splice(3..3, [("extension index", 3, 4), ("core", 2, 5)]);
+    audio
+}
+
 pub fn read_alone(element: &[u8]) -> Result<Reading, Refusal> {
     read(element, None, MAP_NUMBERS)
 }
@@ -159,4 +168,31 @@ pub const WORKED: [u8; 17] = [
 
 pub fn first_worked() -> &'static [u8] {
     &WORKED[3..12]
+}
+
+/// Whether a row is of type 29, its PS and its channel configuration.
+type PsOver = (bool, i8, u64);
+
+/// Both forms of PS 1 over each channel configuration, and PS 0 and -1 over 1 are
+/// among the rows of these records; those over 1 at least ten times.
+pub fn meet_ps_over_each(records: &[Record]) {
+    let met: Vec<PsOver> = records.iter().flat_map(ps_over).collect();
+    let both = |configuration| [(true, 1, configuration), (false, 1, configuration)];
+    let ps_1 = (1..=7).flat_map(both);
+    for wanted in ps_1.chain([(false, 0, 1), (false, -1, 1)]) {
+        let times = met.iter().filter(|row| **row == wanted).count();
+        let least = if wanted.2 == 1 { 10 } else { 1 };
+        assert!(times >= least, "{wanted:?} is met {times} times");
+    }
+}
+
+fn ps_over(record: &Record) -> Vec<PsOver> {
+    let rows = rows_of_any(record);
+    rows.iter()
+        .map(|row| {
+            let audio = &record.streams[row.stream].audio;
+            let type29 = matches!(audio.form, Form::Type29(_));
+            (type29, row.ps, audio.channels)
+        })
+        .collect()
 }
