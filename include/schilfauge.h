@@ -125,7 +125,7 @@ enum {
     SCHILF_ROW_OUTPUT,   /* Hz of the output */
     SCHILF_ROW_SBR,      /* 1, 0, or -1 where the configuration sent no flag */
     SCHILF_ROW_PS,       /* the same */
-    SCHILF_ROW_CHANNELS, /* channels of the output: two where PS is 1 over channelConfiguration 1, else the table's */
+    SCHILF_ROW_CHANNELS, /* channels of the output: two where PS is 1 over channelConfiguration 1, else its own */
     SCHILF_ROW_WORDS
 };
 

@@ -89,7 +89,7 @@ pub struct Accepted {
 }
 
 /// What a record says of one stream. SBR and PS are none where the configuration sent no flag; channels are those of
-/// the output, two where PS is signalled over channelConfiguration 1.
+/// the output, two where PS is true over channelConfiguration 1.
 #[derive(Clone, Copy, Debug, PartialEq, Eq)]
 pub struct Row {
     pub stream: i64,
