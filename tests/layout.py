@@ -180,8 +180,10 @@ class Element:
                         self.value("ascLen", asc_len.get(stream, alone.at()), size)
                     self.audio(layer.audio, *tail)
                 self.part("frameLengthType", 3, layer.type)
-                if layer.type < 2:
-                    self.part("latmBufferFullness or frameLength", 8 + layer.type, layer.value)
+                if layer.type == 0:
+                    self.part("latmBufferFullness", 8, layer.value)
+                elif layer.type == 1:
+                    self.part("frameLength", 9, layer.value)
                 before = layer.audio
                 stream += 1
         self.part("otherDataPresent", 1, int(mux.other is not None))

@@ -369,15 +369,21 @@ samples = {
 # The frames of no-configuration meet here what the last of damaged holds.
 together = [*damaged(), *no_configuration(), *two_programmes(), *signalling(), *subframes(), NO_FRAME]
 
-home = pathlib.Path(__file__).resolve().parent.parent
-(home / "samples").mkdir(exist_ok=True)
-for name, pieces in samples.items():
-    (home / "samples" / f"{name}.loas").write_bytes(capture(pieces))
-    (home / "samples" / f"{name}.listing").write_text(listing(pieces))
-    (home / "samples" / f"{name}.summary").write_text(summary(pieces))
 
-for name, print_of, pieces in (("listing", listing, WORKED), ("summary", summary, together)):
-    folder = home / "crates" / name
-    folder.mkdir(exist_ok=True)
-    (folder / "stdin").write_bytes(capture(pieces))
-    (folder / "stdout").write_text(print_of(pieces))
+def main():
+    home = pathlib.Path(__file__).resolve().parent.parent
+    (home / "samples").mkdir(exist_ok=True)
+    for name, pieces in samples.items():
+        (home / "samples" / f"{name}.loas").write_bytes(capture(pieces))
+        (home / "samples" / f"{name}.listing").write_text(listing(pieces))
+        (home / "samples" / f"{name}.summary").write_text(summary(pieces))
+
+    for name, print_of, pieces in (("listing", listing, WORKED), ("summary", summary, together)):
+        folder = home / "crates" / name
+        folder.mkdir(exist_ok=True)
+        (folder / "stdin").write_bytes(capture(pieces))
+        (folder / "stdout").write_text(print_of(pieces))
+
+
+if __name__ == "__main__":
+    main()
