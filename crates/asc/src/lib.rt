@@ -1,5 +1,7 @@
 // The readers of AudioSpecificConfig, one for each production of specs/.
 // Its fields, which a window may bound, are taken through the bit reader.
+#![tactic(auto)]
+
 mod object_types;
 mod rates;
 mod signalling;
@@ -21,21 +23,21 @@ use signalling::asc_tail;
 pub use signalling::left_of;
 
 // A frequency and the cursor behind it.
-#[derive(Drop)]
+#[derive(Clone, Copy)]
 pub struct ReadFreq {
     pub freq: Freq,
     pub next: Cursor,
 }
 
 // A frequency as it was read, or why it was not.
-#[derive(Drop)]
+#[derive(Clone, Copy)]
 pub enum Rated {
     Value(ReadFreq),
     Refused(Refusal),
 }
 
 // The values of GASpecificConfig.
-#[derive(Drop)]
+#[derive(Clone, Copy)]
 pub struct Flags {
     pub flag: u32,
     pub depends: u32,
@@ -43,42 +45,42 @@ pub struct Flags {
 }
 
 // The flags and the cursor behind them.
-#[derive(Drop)]
+#[derive(Clone, Copy)]
 pub struct ReadFlags {
     pub flags: Flags,
     pub next: Cursor,
 }
 
 // The flags of GASpecificConfig as they were read, or why they were not.
-#[derive(Drop)]
+#[derive(Clone, Copy)]
 pub enum Flagged {
     Value(ReadFlags),
     Refused(Refusal),
 }
 
 // The form of signalling and the cursor behind it.
-#[derive(Drop)]
+#[derive(Clone, Copy)]
 pub struct ReadForm {
     pub form: Form,
     pub next: Cursor,
 }
 
 // The form of signalling as it was read, or why it was not.
-#[derive(Drop)]
+#[derive(Clone, Copy)]
 pub enum Formed {
     Value(ReadForm),
     Refused(Refusal),
 }
 
 // A configuration and the cursor behind it.
-#[derive(Drop)]
+#[derive(Clone, Copy)]
 pub struct ReadConfig {
     pub config: Config,
     pub next: Cursor,
 }
 
 // A configuration as it was read, or why it was not.
-#[derive(Drop)]
+#[derive(Clone, Copy)]
 pub enum Configured {
     Value(ReadConfig),
     Refused(Refusal),

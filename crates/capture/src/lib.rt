@@ -1,4 +1,5 @@
 // The frames of a capture one after the other, each read with what was held by then.
+#![tactic(auto)]
 ghost use Rattle.std.specs.Prelude.{◌≡◌};
 ghost use Rattle.capture.specs.Blocks.{block_room};
 ghost use Rattle.capture.specs.Frames.{start, mark_of, OfPoint, holding_of, held_from, holding_behind};
@@ -11,7 +12,7 @@ use sync::{Hunted, element_at, hunt};
 
 // What is kept of where a capture is come to: the byte from which the next frame is hunted, the number of its element,
 // and what is held, prepared.
-#[derive(Drop)]
+#[derive(Clone, Copy)]
 pub struct Mark {
     pub at: usize,
     pub number: usize,
@@ -19,14 +20,14 @@ pub struct Mark {
 }
 
 // A mark and what is held there itself, for programs that show it or write it anew.
-#[derive(Drop)]
+#[derive(Clone, Copy)]
 pub struct Holding {
     pub mark: Mark,
     pub held: Held,
 }
 
 // The place of a frame, the bytes of its element and the verdict on it; or no frame is left.
-#[derive(Drop)]
+#[derive(Clone, Copy)]
 pub enum Found {
     Frame(usize, usize, Verdict),
     End,
@@ -34,7 +35,7 @@ pub enum Found {
 
 // The next frame, the configuration that was sent where its element was accepted, or else the blank one, and where the
 // capture is then come to.
-#[derive(Drop)]
+#[derive(Clone, Copy)]
 pub struct Step {
     pub found: Found,
     pub sent: Record,

@@ -1,8 +1,9 @@
 // StreamMuxConfig in parts, as its definition in specs/ gives them.
+#![tactic(auto)]
 use records::Stream;
 
 // The values of StreamMuxConfig up to numProgram.
-#[derive(Drop)]
+#[derive(Clone, Copy)]
 pub struct Head {
     pub version: u32,
     pub subversion: u32,
@@ -13,7 +14,7 @@ pub struct Head {
 }
 
 // From otherDataPresent on.
-#[derive(Drop)]
+#[derive(Clone, Copy)]
 pub struct Ending {
     pub other: u32,
     pub bits: u32,
@@ -22,7 +23,7 @@ pub struct Ending {
 }
 
 // numLayer of each program, and the streams in reading order.
-#[derive(Drop)]
+#[derive(Clone, Copy)]
 pub struct Places {
     pub layers: [u32; 16],
     pub streams: [Stream; 16],

@@ -1,4 +1,5 @@
 // The readers of StreamMuxConfig, one for each production of crates/config/specs/Mux.antt.
+#![tactic(auto)]
 mod ending_fields;
 mod head_fields;
 mod layers;
@@ -19,35 +20,35 @@ use layers::programs_of;
 use records::{Record, Stream, no_record};
 
 // The values up to numProgram and the cursor behind them.
-#[derive(Drop)]
+#[derive(Clone, Copy)]
 pub struct ReadHead {
     pub head: Head,
     pub next: Cursor,
 }
 
 // These as they were read, or why they were not.
-#[derive(Drop)]
+#[derive(Clone, Copy)]
 pub enum Headed {
     Value(ReadHead),
     Refused(Refusal),
 }
 
 // The values from otherDataPresent on and the cursor behind them.
-#[derive(Drop)]
+#[derive(Clone, Copy)]
 pub struct ReadEnding {
     pub ending: Ending,
     pub next: Cursor,
 }
 
 // These as they were read, or why they were not.
-#[derive(Drop)]
+#[derive(Clone, Copy)]
 pub enum Ended {
     Value(ReadEnding),
     Refused(Refusal),
 }
 
 // What was reached, beside numLayer of each program and the streams: an enum cannot hold an array.
-#[derive(Drop)]
+#[derive(Clone, Copy)]
 pub struct Placed {
     pub reached: Reached,
     pub layers: [u32; 16],
@@ -55,7 +56,7 @@ pub struct Placed {
 }
 
 // What was reached, beside the record of a whole StreamMuxConfig.
-#[derive(Drop)]
+#[derive(Clone, Copy)]
 pub struct Mux {
     pub reached: Reached,
     pub config: Record,

@@ -1,4 +1,5 @@
 // One AudioMuxElement: what is held, and what a reading replies.
+#![tactic(auto)]
 ghost use Rattle.std.specs.Prelude.{◌≡◌};
 ghost use Rattle.element.specs.Reply.{nothing_held, held_by};
 
@@ -6,21 +7,21 @@ use kernel::Refusal;
 use records::{Record, no_record};
 
 // The configuration held, if any.
-#[derive(Drop)]
+#[derive(Clone, Copy)]
 pub struct Held {
     pub present: bool,
     pub config: Record,
 }
 
 // Accepted with so many items and fields, and whether a configuration was sent; or refused.
-#[derive(Drop)]
+#[derive(Clone, Copy)]
 pub enum Verdict {
     Accepted(u32, u32, bool),
     Refused(Refusal),
 }
 
 // The verdict, and what is then held.
-#[derive(Drop)]
+#[derive(Clone, Copy)]
 pub struct Reply {
     pub verdict: Verdict,
     pub held: Held,

@@ -1,4 +1,5 @@
 // The map of an element read back, and the bits of its items copied.
+#![tactic(auto)]
 ghost use Rattle.std.specs.Prelude.{◌≡◌, ◌+◌, ◌*◌, ◌%◌, ◌≤◌, length};
 ghost use Rattle.kernel.specs.Bits.{value_at, Put};
 ghost use Rattle.items.specs.Items.{item_at};
@@ -7,7 +8,7 @@ ghost use Rattle.items.specs.Copied.{padded, copied};
 use kernel::{Cursor, Fetched, Window, fetch, least, put};
 
 // Kind, stream, first bit and width.
-#[derive(Drop)]
+#[derive(Clone, Copy)]
 pub struct Item {
     pub kind: u32,
     pub stream: u32,

@@ -1,5 +1,6 @@
 // The readers of one layer of StreamMuxConfig, which is one stream: its configuration, sent or that of the stream
 // before, and its frame length.
+#![tactic(auto)]
 ghost use Rattle.std.specs.Prelude.{eqb};
 ghost use Rattle.kernel.specs.Reading.{choose, Stands};
 ghost use Rattle.kernel.specs.Promises.{Tells};
@@ -13,14 +14,14 @@ use numbers::latm_get_value;
 use records::{Config, Stream};
 
 // A stream and the cursor behind it.
-#[derive(Drop)]
+#[derive(Clone, Copy)]
 pub struct ReadStream {
     pub stream: Stream,
     pub next: Cursor,
 }
 
 // A stream as it was read, or why it was not.
-#[derive(Drop)]
+#[derive(Clone, Copy)]
 pub enum Streamed {
     Value(ReadStream),
     Refused(Refusal),

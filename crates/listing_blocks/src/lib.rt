@@ -1,5 +1,6 @@
 // The listing of a capture, in blocks: a record of 24 bytes for each item of an accepted element, and one for a refused
 // element.
+#![tactic(auto)]
 ghost use Rattle.std.specs.Prelude.{◌≡◌, ◌+◌, ◌*◌, ◌≤◌, length};
 ghost use Rattle.kernel.specs.Lists.{Stored};
 ghost use Rattle.capture.specs.Frames.{OfPoint};
@@ -108,7 +109,7 @@ fn lay_verdict(out: &mut [u8], at: usize, number: usize, v: Verdict, map: &[u32]
 }
 
 // Where the listing is come to, the bytes of records laid, and whether no frame is left.
-#[derive(Drop)]
+#[derive(Clone, Copy)]
 pub struct Block {
     pub reached: Mark,
     pub bytes: usize,

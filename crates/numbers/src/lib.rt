@@ -1,5 +1,6 @@
 // Numbers of several bytes: a variable value, and groups of a continue bit and a byte; read, and put in the fewest
 // bytes that hold them.
+#![tactic(auto)]
 mod reading;
 mod writing;
 

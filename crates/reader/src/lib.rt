@@ -1,4 +1,5 @@
 // One AudioMuxElement, read whole into a map.
+#![tactic(auto)]
 ghost use Rattle.std.specs.Prelude.{◌≡◌, true, ◌&&◌, ◌++◌, map, ◌-◌, ◌≤◌, length, take, replicate};
 ghost use Rattle.kernel.specs.Reading.{Stands};
 ghost use Rattle.kernel.specs.Element.{read};
@@ -16,7 +17,7 @@ use records::{Record, Stream, no_record, streams_in, valid};
 use walk::{Plan, finish};
 
 // What readings need of what is held: whether it can be used, and its plan, or else one of nothing.
-#[derive(Drop)]
+#[derive(Clone, Copy)]
 pub struct Prepared {
     pub usable: bool,
     pub plan: Plan,
@@ -24,7 +25,7 @@ pub struct Prepared {
 
 // The verdict, the configuration that was sent where it was accepted, or else the blank one, and what is then held,
 // prepared.
-#[derive(Drop)]
+#[derive(Clone, Copy)]
 pub struct PreparedReply {
     pub verdict: Verdict,
     pub sent: Record,

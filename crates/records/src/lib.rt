@@ -1,4 +1,5 @@
 // The record of a StreamMuxConfig: all its values but useSameConfig, ascLen and fill. What is not sent holds 0.
+#![tactic(auto)]
 mod rules;
 mod same;
 mod table;
@@ -11,7 +12,7 @@ pub use same::{same_config, same_record};
 pub use table::{row_from, streams_in, table_of};
 
 // A frequency: an index 0 to 12, or 24 bits of Hz.
-#[derive(Drop)]
+#[derive(Clone, Copy)]
 pub enum Freq {
     Index(u32),
     Hz(u32),
@@ -19,7 +20,7 @@ pub enum Freq {
 
 // How SBR and PS are signalled: not at all; by type 5 or 29 in front; after 0x2B7 with flag 0, with flag 1, or with
 // flag 1 and a PS flag.
-#[derive(Drop)]
+#[derive(Clone, Copy)]
 pub enum Form {
     None,
     Type5(Freq),
@@ -30,7 +31,7 @@ pub enum Form {
 }
 
 // An AudioSpecificConfig with its GASpecificConfig.
-#[derive(Drop)]
+#[derive(Clone, Copy)]
 pub struct Config {
     pub core: u32, // audioObjectType 1 to 4, alone or under type 5 or 29
     pub freq: Freq, // samplingFrequency
@@ -42,7 +43,7 @@ pub struct Config {
 }
 
 // One layer: its configuration and its frame length.
-#[derive(Drop)]
+#[derive(Clone, Copy)]
 pub struct Stream {
     pub config: Config,
     pub kind: u32, // frameLengthType
@@ -51,7 +52,7 @@ pub struct Stream {
 }
 
 // A whole StreamMuxConfig.
-#[derive(Drop)]
+#[derive(Clone, Copy)]
 pub struct Record {
     pub version: u32, // audioMuxVersion
     pub subversion: u32, // audioMuxVersionA

@@ -1,11 +1,12 @@
 // The row of a stream.
+#![tactic(auto)]
 ghost use Rattle.std.specs.Prelude.{◌≡◌, [], ◌<◌, get_or};
 ghost use Rattle.row.specs.Row.{hz_at, hz_of, sbr_of, ps_of, output_of, channels_at, output_channels, row_of, row_in};
 
 use records::{Form, Freq, Record, Stream};
 
 // SBR and PS are 1, 0, or minus one where the configuration sent no flag.
-#[derive(Drop)]
+#[derive(Clone, Copy)]
 pub struct Row {
     pub program: u32,
     pub layer: u32,
@@ -18,7 +19,7 @@ pub struct Row {
 }
 
 // The row of a program's layer, where there is such a layer.
-#[derive(Drop)]
+#[derive(Clone, Copy)]
 pub enum Rowed {
     Is(Row),
     Absent,

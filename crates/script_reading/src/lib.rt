@@ -1,4 +1,5 @@
 // Cases of a script that read: H, R, W and S. Each says whether the script goes on.
+#![tactic(auto)]
 use element::{Held, Verdict};
 use record_words::RECORD_WORDS;
 use records::Record;
@@ -7,7 +8,7 @@ use script::{CUT, map, number, say, say_number, say_refused, say_row, say_word, 
 use sync::Hunted;
 
 // What is then held, and whether the script goes on.
-#[derive(Drop)]
+#[derive(Clone, Copy)]
 pub struct Next {
     pub held: Held,
     pub more: bool,

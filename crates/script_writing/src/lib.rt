@@ -1,4 +1,5 @@
 // Cases of a script that write: P and F. Each says whether the script goes on.
+#![tactic(auto)]
 use records::Record;
 use script::{number, output, take, take_words};
 use sync::Framed;

@@ -1,5 +1,6 @@
 // The summary of a capture, in blocks: a line for each stream of a configuration that becomes held, and one for each
 // refused element.
+#![tactic(auto)]
 ghost use Rattle.std.specs.Prelude.{◌≡◌, cond, not, ◌&&◌, [], ◌+◌, ◌≤◌, eqb, length};
 ghost use Rattle.kernel.specs.Lists.{Stored};
 ghost use Rattle.records.specs.Same.{same_record};
@@ -101,7 +102,7 @@ fn said_after(said: bool, v: Verdict) -> bool
 
 // Where the summary is come to, whether the want of a configuration was said, the bytes of text laid, and whether no
 // frame is left.
-#[derive(Drop)]
+#[derive(Clone, Copy)]
 pub struct Block {
     pub reached: Holding,
     pub said: bool,

@@ -1,4 +1,5 @@
 // The lines of the summary, laid into lent bytes: rows, and refused elements.
+#![tactic(auto)]
 mod lines;
 mod rows;
 

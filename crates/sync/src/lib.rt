@@ -1,4 +1,5 @@
 // LOAS frames: found in a capture, and written.
+#![tactic(auto)]
 ghost use Rattle.std.specs.Prelude.{◌≡◌, ◌+◌, ◌≤◌, leb, get_or};
 ghost use Rattle.sync.specs.Sync.{marked, size_at, frame_at, hunt_of, element_at};
 ghost use Rattle.sync.specs.Promises.{FramePromise};
@@ -6,14 +7,14 @@ ghost use Rattle.sync.specs.Promises.{FramePromise};
 use kernel::{Refusal, lay, unread};
 
 // The place of a frame and the bytes of its element.
-#[derive(Drop)]
+#[derive(Clone, Copy)]
 pub enum Hunted {
     Found(usize, usize),
     Refused(Refusal),
 }
 
 // The bytes of a frame written.
-#[derive(Drop)]
+#[derive(Clone, Copy)]
 pub enum Framed {
     Done(usize),
     Refused(Refusal),

@@ -1,4 +1,5 @@
 // Text laid into lent bytes: numbers in a column, and the refusals in words.
+#![tactic(auto)]
 ghost use Rattle.std.specs.Prelude.{◌≡◌, ◌+◌, ◌≤◌, ◌<◌, length, get_or};
 ghost use Rattle.kernel.specs.Lists.{Stored};
 ghost use Rattle.text.specs.Text.{digit_or_blank, figures, number, column};
@@ -60,8 +61,8 @@ const WORDS: [[u8; 68]; 21] = [
     *b"more than 16 streams                                                ",
     *b"audio object type not carried                                       ",
     *b"frequency index 13 or 14, or a frequency of 0 Hz                    ",
-    *b"a field of the configuration passes asc_len                          ",
-    *b"channel_configuration not carried                                    ",
+    *b"a field of the configuration passes ascLen                          ",
+    *b"channelConfiguration not carried                                    ",
     *b"dependsOnCoreCoder or extensionFlag is 1                            ",
     *b"frameLengthType not carried                                         ",
     *b"the length of other data has more than four groups                  ",

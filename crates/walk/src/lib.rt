@@ -1,4 +1,5 @@
 // The walk over an element behind its configuration: dry, or storing the map.
+#![tactic(auto)]
 mod slots;
 
 ghost use Rattle.std.specs.Prelude.{◌≡◌, cond, [], ◌∷◌, ◌+◌, ◌*◌, ◌≤◌, length, take};
@@ -14,7 +15,7 @@ use kernel::{Cursor, Reached, Refusal, refused_at, skip};
 use slots::lengths_of;
 
 // What a walk needs of a configuration; of each stream 0, where length bytes give its slots, or the bits of fixed ones.
-#[derive(Drop)]
+#[derive(Clone, Copy)]
 pub struct Plan {
     pub slots: [u32; 16],
     pub streams: usize,
@@ -24,14 +25,14 @@ pub struct Plan {
 }
 
 // What a walk came to: so many items stand in the map, and the cursor; or a refusal.
-#[derive(Drop)]
+#[derive(Clone, Copy)]
 pub enum Walked {
     Items(u32, Cursor),
     Refused(Refusal),
 }
 
 // What was reached, and beside it the bits of the slots of one subframe.
-#[derive(Drop)]
+#[derive(Clone, Copy)]
 pub struct Lengths {
     pub reached: Reached,
     pub widths: [u32; 16],

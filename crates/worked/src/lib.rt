@@ -1,1 +1,2 @@
 // The worked cases of readers and writer: claims only.
+#![tactic(auto)]

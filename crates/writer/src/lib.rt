@@ -1,4 +1,5 @@
 // The writer of elements.
+#![tactic(auto)]
 mod measures;
 
 ghost use Rattle.std.specs.Prelude.{◌≡◌, true, ◌+◌, ◌-◌, ◌*◌, ◌/◌, ◌%◌, ◌≤◌, eqb, length, take, drop};
@@ -18,14 +19,14 @@ use measures::{measure_all, measure_row, other_bytes};
 use records::{Record, Stream, streams_in, valid};
 
 // The bytes of the element written.
-#[derive(Drop)]
+#[derive(Clone, Copy)]
 pub enum Written {
     Done(usize),
     Refused(Refusal),
 }
 
 // Whether fixed slots have their size, and how many bytes the lengths and the payload have.
-#[derive(Drop)]
+#[derive(Clone, Copy)]
 struct Measure {
     fits: bool,
     lengths: usize,
