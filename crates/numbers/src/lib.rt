@@ -1,6 +1,7 @@
 // Numbers of several bytes: a variable value, and groups of a continue bit and a byte; read, and put in the fewest
 // bytes that hold them.
 #![tactic(auto)]
+
 mod reading;
 mod writing;
 

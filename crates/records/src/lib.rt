@@ -1,5 +1,6 @@
 // The record of a StreamMuxConfig: all its values but useSameConfig, ascLen and fill. What is not sent holds 0.
 #![tactic(auto)]
+
 mod rules;
 mod same;
 mod table;

@@ -1,5 +1,6 @@
 // LOAS frames: found in a capture, and written.
 #![tactic(auto)]
+
 ghost use Rattle.std.specs.Prelude.{◌≡◌, ◌+◌, ◌≤◌, leb, get_or};
 ghost use Rattle.sync.specs.Sync.{marked, size_at, frame_at, hunt_of, element_at};
 ghost use Rattle.sync.specs.Promises.{FramePromise};

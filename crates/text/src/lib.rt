@@ -1,5 +1,6 @@
 // Text laid into lent bytes: numbers in a column, and the refusals in words.
 #![tactic(auto)]
+
 ghost use Rattle.std.specs.Prelude.{◌≡◌, ◌+◌, ◌≤◌, ◌<◌, length, get_or};
 ghost use Rattle.kernel.specs.Lists.{Stored};
 ghost use Rattle.text.specs.Text.{digit_or_blank, figures, number, column};

@@ -11,44 +11,44 @@ use borrow.Author.Rules.{rules}
 use Rattle.text.proofs.lay_figures.Statement.{statement}
 use Rattle.text.proofs.lay_figures.Tie as tie
 
-abbrev invariant-loop : tie.invariant-loop
-invariant-loop out₀ at width n left₀ rest₀ out left rest =
+abbrev invariant-loop-left : tie.invariant-loop-left
+invariant-loop-left out₀ at width n left₀ rest₀ out left rest =
     (left ≤ width) × (sets out at (figures left rest) ≡ sets out₀ at (figures width n))
 
-abbrev decreases-loop : tie.decreases-loop
-decreases-loop out₀ at width n left₀ rest₀ out left rest = left
+abbrev decreases-loop-left : tie.decreases-loop-left
+decreases-loop-left out₀ at width n left₀ rest₀ out left rest = left
 
-loop-holds : tie.Need-loop-init invariant-loop decreases-loop
+loop-holds : tie.Need-loop-left-init invariant-loop-left decreases-loop-left
 loop-holds c = (omega arith, refl)
 
-loop-again : tie.Need-loop-preserved invariant-loop decreases-loop
+loop-again : tie.Need-loop-left-preserved invariant-loop-left decreases-loop-left
 loop-again c =
     let l = c.before.before.before.before.before.before in
-    let a = l.before.before.args in
-    let e : l.loop.left - 1 + 1 ≡ l.loop.left = omega arith in (
+    let a = l.args in
+    let e : l.loop-left.left - 1 + 1 ≡ l.loop-left.left = omega arith in (
       omega arith,
-      rw c.before.before.store.ensures
-          (figures_step l.loop.out _ a.at (l.loop.left - 1) l.loop.rest _
-          c.before.before.before.digit_or_blank.ensures (rw e l.loop.invariant.1)),
+      rw c.store.ensures
+          (figures_step l.loop-left.out _ a.at (l.loop-left.left - 1) l.loop-left.rest _
+          c.digit_or_blank.ensures (rw e l.loop-left.invariant.1)),
     )
 
-done : (c : tie.After-loop invariant-loop decreases-loop) → let a = c.before.before.before.args in
-    Stored a.out.now a.at (figures a.width a.n) c.before.loop.out (a.at + a.width)
+done : (c : tie.After-loop-left invariant-loop-left decreases-loop-left) → let a = c.args in
+    Stored a.out.now a.at (figures a.width a.n) c.loop-left.out (a.at + a.width)
 unfolding figures
 done c =
-    let a = c.before.before.before.args in
-    let l = c.before.loop in
+    let a = c.args in
+    let l = c.loop-left in
     let e : l.left ≡ 0 = omega arith in
     record { next = omega (arith, length_figures a.width a.n); cells = rw e at l.invariant.1 }
 
-same_length : tie.Need-same-length invariant-loop decreases-loop
+same_length : tie.Need-shape_of-out invariant-loop-left decreases-loop-left
 same_length c = stored_length (done c)
 
-returns : tie.Need-returns invariant-loop decreases-loop
+returns : tie.Need-returns invariant-loop-left decreases-loop-left
 returns c = done c
 
-pub lay-figures-spec : {M : Type 1} → statement M
-lay-figures-spec =
+pub lay_figures_spec : {M : Type 1} → statement M
+lay_figures_spec =
     tie.close
-    (tie.spec invariant-loop decreases-loop loop-holds (λ c. search rules) (λ c. search rules) (λ c κs. search rules)
+    (tie.spec invariant-loop-left decreases-loop-left loop-holds (λ c. search rules) (λ c. search rules) (λ c κs. search rules)
     (λ c κs. search rules) (λ c. search rules) loop-again same_length returns)

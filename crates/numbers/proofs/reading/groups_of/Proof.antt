@@ -13,70 +13,70 @@ use Rattle.numbers.proofs.Turns.{Adding, more_small, more_fits, groups_more, gro
 use Rattle.numbers.proofs.reading.groups_of.Statement.{statement}
 use Rattle.numbers.proofs.reading.groups_of.Tie as tie
 
-abbrev invariant-loop : tie.invariant-loop
-invariant-loop el cur₀ v₀ left₀ cur v left = Adding 4 left v el (groups_from 4 0) cur₀ (groups_from left v) cur
+abbrev invariant-loop-left : tie.invariant-loop-left
+invariant-loop-left el cur₀ v₀ left₀ cur v left = Adding 4 left v el (groups_from 4 0) cur₀ (groups_from left v) cur
 
-abbrev decreases-loop : tie.decreases-loop
-decreases-loop el cur₀ v₀ left₀ cur v left = left
+abbrev decreases-loop-left : tie.decreases-loop-left
+decreases-loop-left el cur₀ v₀ left₀ cur v left = left
 
-abbrev bit : tie.After-fetch invariant-loop decreases-loop → Asked told_fetched ℕ
+abbrev bit : tie.After-fetch-a invariant-loop-left decreases-loop-left → Asked told_fetched ℕ
 bit c =
-    let l = c.before.before.loop in
-    asks (that_is (resumed l.invariant.remains) (groups_more l.left l.v (omega arith))) next c.fetch.result
-    c.fetch.ensures
+    let l = c.loop-left in
+    asks (that_is (resumed l.invariant.remains) (groups_more l.left l.v (omega arith))) next c.fetch-a.result
+    c.fetch-a.ensures
 
 -- the continue bit may stand there
-abbrev may : tie.Else1 invariant-loop decreases-loop → Along ℕ
+abbrev may : tie.Else-not-may invariant-loop-left decreases-loop-left → Along ℕ
 may c =
-    let a = c.before.before in
-    needed (gave (bit a.before.before) a.a.given.1) must (not-false _ c.if1.false)
+    let a = c.before in
+    needed (gave (bit a.before) a.in-Value.is) must c.if-not-may.false
 
-abbrev byte : tie.After-fetch2 invariant-loop decreases-loop → Asked told_fetched ℕ
-byte c = asks (may c.before) next c.fetch2.result c.fetch2.ensures
+abbrev byte : tie.After-fetch-b invariant-loop-left decreases-loop-left → Asked told_fetched ℕ
+byte c = asks (may c.before) next c.fetch-b.result c.fetch-b.ensures
 
-abbrev grown : tie.After-b invariant-loop decreases-loop → Along ℕ
-grown c = gave (byte c.before.before) c.b.given.1
+abbrev grown : tie.In-Value-b invariant-loop-left decreases-loop-left → Along ℕ
+grown c = gave (byte c.before) c.in-Value-b.is
 
-narrow : (c : tie.After-b invariant-loop decreases-loop) → c.b.given.0.0 < 2 ^ 8
-narrow c = (took Open 8 (came (byte c.before.before) c.b.given.1)).narrow
+narrow : (c : tie.In-Value-b invariant-loop-left decreases-loop-left) → c.in-Value-b.x < 2 ^ 8
+narrow c = (took Open 8 (came (byte c.before) c.in-Value-b.is)).narrow
 
-fits : (c : tie.After-b invariant-loop decreases-loop)
-    → 256 * c.before.before.before.before.before.before.before.before.before.loop.v + c.b.given.0.0
+fits : (c : tie.In-Value-b invariant-loop-left decreases-loop-left)
+    → 256 * c.loop-left.v + c.in-Value-b.x
     < 4294967296
 fits c =
-    more_fits c.before.before.before.before.before.before.before.before.before.loop.invariant (omega arith)
+    more_fits c.loop-left.invariant (omega arith)
     (narrow c) (omega arith)
 
-loop-again : tie.Need-loop-preserved invariant-loop decreases-loop
+loop-again : tie.Need-loop-left-preserved invariant-loop-left decreases-loop-left
 loop-again c =
-    let b = c.before.before in
-    let l = b.before.before.before.before.before.before.before.before.before.loop in
+    let b = c.before in
+    let l = b.loop-left in
     record {
       few = omega arith;
       small = more_small l.invariant (omega arith) (narrow b);
-      remains = remains (when (grown b) either (eq-eqb _ 1 c.if2.false));
+      remains = remains (when (grown b) either (eq-eqb _ 1 c.if-more-ne1.false));
     }
 
-returns-2 : tie.Need-returns-2 invariant-loop decreases-loop
+returns-2 : tie.Need-returns-then-not-may invariant-loop-left decreases-loop-left
 returns-2 c =
-    let a = c.before.before.before in
-    denied (bit a.before.before) a.a.given.1 a_field must (not-true _ c.before.if1.true)
+    let a = c.before.before in
+    denied (bit a.before) a.in-Value.is a_field must c.if-not-may.true
     c.refused_at.ensures
 
-returns-5 : tie.Need-returns-5 invariant-loop decreases-loop
+returns-5 : tie.Need-returns invariant-loop-left decreases-loop-left
 returns-5 c =
-    let l = c.before.loop in
+    let l = c.loop-left in
     ends (that_is (resumed l.invariant.remains) (groups_none l.left l.v (omega arith))) gives
 
-pub groups-of-spec : {M : Type 1} → statement M
-groups-of-spec =
+pub groups_of_spec : {M : Type 1} → statement M
+groups_of_spec =
     tie.close
-    (tie.spec invariant-loop decreases-loop
+    (tie.spec invariant-loop-left decreases-loop-left
     (λ c. record { few = omega arith; small = omega arith; remains = all_remains (omega arith) })
     (λ c κs. omega arith) (λ c. search rules) (λ c. search rules)
-    (λ c. returned (bit c.before.before) c.enum_told.given.1) (λ c κs. search rules) returns-2
+    (λ c. returned (bit c.before) c.in_default.is) (λ c κs. search rules) returns-2
     (λ c κs. omega (arith, (may c).stands)) (λ c. search rules) (λ c. search rules)
-    (λ c. returned (byte c.before.before) c.enum-told2.given.1)
-    (λ c. omega (arith, fits c.before)) (λ c. omega (arith, fits c.before))
-    (λ c. ends (unless (grown c.before.before) either (ne_eqb _ 1 c.if2.true)) gives)
+    (λ c. returned (byte c.before) c.in_default-b.is)
+    (λ c. omega (arith, fits c)) (λ c. omega (arith, fits c))
+    (λ c. ends (unless (grown c.before) either (ne_eqb _ 1 c.if-more-ne1.true)) gives)
     (λ c. omega arith) (λ c. omega arith) loop-again returns-5)
