@@ -1,5 +1,6 @@
 // A record as words at fixed places: what it has once, the layers of 16 programs, and last 16 streams.
 #![tactic(auto)]
+
 mod lay;
 mod take;
 

@@ -1,5 +1,6 @@
 // The row of a stream.
 #![tactic(auto)]
+
 ghost use Rattle.std.specs.Prelude.{◌≡◌, [], ◌<◌, get_or};
 ghost use Rattle.row.specs.Row.{hz_at, hz_of, sbr_of, ps_of, output_of, channels_at, output_channels, row_of, row_in};
 

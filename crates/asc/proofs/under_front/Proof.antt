@@ -9,40 +9,40 @@ use Rattle.asc.specs.Answer.{told_rated, told_flagged}
 use Rattle.asc.proofs.under_front.Statement.{statement}
 use Rattle.asc.proofs.under_front.Tie as tie
 
-pub under-front-spec : {M : Type 1} → statement M
+pub under_front_spec : {M : Type 1} → statement M
 unfolding under_front
-under-front-spec =
+under_front_spec =
     tie.close
     (tie.spec (λ c κs. search rules) (λ c. search rules) (λ c. search rules)
-    (λ c. stops (rate c.before.before.before) c.before.x.given.1)
-    (λ c κs. (gave (rate c.before.before.before) c.before.r.given.1).stands)
+    (λ c. stops (rate c.before) c.in-Refused.is)
+    (λ c κs. (gave (rate c.before.before) c.in-Value.is).stands)
     (λ c. search rules) (λ c. search rules) (λ c κs. search rules)
-    (λ c. hands (core c.before.before.before) c.before.enum_told.given.1 c.why.ensures)
-    (λ c κs. (gave (core c.before.before.before) c.before.number.given.1).stands)
+    (λ c. hands (core c.before.before) c.in_default.is c.why.ensures)
+    (λ c κs. (gave (core c.before) c.in-Value-number.is).stands)
     (λ c. search rules) (λ c. search rules)
-    (λ c. stops (flags c.before.before.before) c.before.x2.given.1)
+    (λ c. stops (flags c.before) c.in-Refused-flags_of.is)
     (λ c κs. search rules) (λ c κs. search rules)
     returns-4)
   where
-    rate : tie.After-frequency-of → Asked told_rated Config
+    rate : tie.After-frequency_of → Asked told_rated Config
     rate c =
-        let s = c.before.before in
+        let s = c in
         let a = s.args in
         asks (start _ (under_front a.t a.f a.channels _) s.requires) next c.frequency_of.result
         c.frequency_of.ensures
 
-    core : tie.After-object-type → Asked told_fetched Config
+    core : tie.After-object_type-number → Asked told_fetched Config
     core c =
-        let r = c.before.before in
-        asks (gave (rate r.before.before) r.r.given.1) next c.object_type.result c.object_type.ensures
+        let r = c in
+        asks (gave (rate r.before.before.before) r.in-Value.is) next c.object_type-number.result c.object_type-number.ensures
 
-    flags : tie.After-flags-of → Asked told_flagged Config
+    flags : tie.After-flags_of → Asked told_flagged Config
     flags c =
-        let n = c.before.before in
-        asks (gave (core n.before.before) n.number.given.1) next c.flags_of.result c.flags_of.ensures
+        let n = c in
+        asks (gave (core n.before.before) n.in-Value-number.is) next c.flags_of.result c.flags_of.ensures
 
-    returns-4 : tie.Need-returns-4
+    returns-4 : tie.Need-returns
     returns-4 c =
-        let r = c.before.before.before.before.before in
-        rw (c.before.config_of.ensures, c.before.before.in_front.ensures)
-        (ends (gave (flags r.before.before) r.r2.given.1) gives)
+        let r = c in
+        rw (c.config_of-config.ensures, c.in_front-form.ensures)
+        (ends (gave (flags r.before.before.before.before.before) r.in-Value-flags_of.is) gives)

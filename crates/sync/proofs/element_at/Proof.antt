@@ -27,7 +27,7 @@ returns c =
     let a = d.args in
     element_in_law a.capture.now a.place a.size (sym d.ends_within.ensures ∙ d.if-ends_within.true)
 
-returns-2 : tie.Need-returns
+returns-2 : tie.Need-returns-then-ends_within
 returns-2 c =
     let d = c.before in
     let a = d.args in

@@ -10,26 +10,26 @@ use Rattle.asc.specs.Asc.{any_type}
 use Rattle.asc.proofs.object_types.any_type.Statement.{statement}
 use Rattle.asc.proofs.object_types.any_type.Tie as tie
 
-pub any-type-spec : {M : Type 1} → statement M
+pub any_type_spec : {M : Type 1} → statement M
 unfolding any_type
-any-type-spec =
+any_type_spec =
     tie.close
     (tie.spec (λ c κs. search rules) (λ c. search rules) (λ c. search rules)
-    (λ c. returned (five c.before.before) c.enum_told.given.1)
-    (λ c κs. omega (arith, (typed c.before.before).stands)) (λ c. search rules) (λ c. search rules)
-    (λ c. returned (six c.before.before) c.enum-told2.given.1)
-    (λ c. omega (arith, (took _ 6 (came (six c.before.before.before) c.before.six.given.1)).narrow))
-    (λ c. ends (gave (six c.before.before.before) c.before.six.given.1) gives)
-    (λ c. ends (unless (typed c.before.before) either (ne_eqb _ 31 c.if1.false)) gives))
+    (λ c. returned (five c.before) c.in_default.is)
+    (λ c κs. omega (arith, (typed c.before).stands)) (λ c. search rules) (λ c. search rules)
+    (λ c. returned (six c.before) c.in_default-six.is)
+    (λ c. omega (arith, (took _ 6 (came (six c.before) c.in-Value-six.is)).narrow))
+    (λ c. ends (gave (six c.before) c.in-Value-six.is) gives)
+    (λ c. ends (unless (typed c.before) either (ne_eqb _ 31 c.if-t-eq31.false)) gives))
   where
-    five : tie.After-take-at → Asked told_fetched ℕ
-    five c = asks (start _ (any_type _) c.before.before.requires) next c.take_at.result c.take_at.ensures
+    five : tie.After-take_at-five → Asked told_fetched ℕ
+    five c = asks (start _ (any_type _) c.requires) next c.take_at-five.result c.take_at-five.ensures
 
-    typed : tie.After-five → Along ℕ
-    typed c = gave (five c.before.before) c.five.given.1
+    typed : tie.In-Value → Along ℕ
+    typed c = gave (five c.before) c.in-Value.is
 
-    six : tie.After-take-at2 → Asked told_fetched ℕ
+    six : tie.After-take_at-six → Asked told_fetched ℕ
     six c =
-        let i = c.before in
-        asks (when (typed i.before.before) either (eq-eqb _ 31 i.if1.true)) next c.take-at2.result
-        c.take-at2.ensures
+        let i = c in
+        asks (when (typed i.before.before) either (eq-eqb _ 31 i.if-t-eq31.true)) next c.take_at-six.result
+        c.take_at-six.ensures

@@ -12,40 +12,40 @@ use Rattle.asc.specs.Asc.{frequency}
 use Rattle.asc.proofs.rates.frequency_of.Statement.{statement}
 use Rattle.asc.proofs.rates.frequency_of.Tie as tie
 
-pub frequency-of-spec : {M : Type 1} → statement M
+pub frequency_of_spec : {M : Type 1} → statement M
 unfolding frequency
-frequency-of-spec =
+frequency_of_spec =
     tie.close
     (tie.spec (λ c κs. search rules) (λ c. search rules) (λ c. search rules) (λ c κs. search rules)
-    (λ c. hands (index c.before.before.before) c.before.enum_told.given.1 c.why.ensures)
-    (λ c κs. (indexed c.before.before).stands) (λ c κs. search rules)
+    (λ c. hands (index c.before.before) c.in_default.is c.why.ensures)
+    (λ c κs. (indexed c.before).stands) (λ c κs. search rules)
     returns-2
     returns-3
     returns-4)
   where
-    index : tie.After-take-at → Asked told_fetched Freq
-    index c = asks (start _ (frequency _) c.before.before.requires) next c.take_at.result c.take_at.ensures
+    index : tie.After-take_at-four → Asked told_fetched Freq
+    index c = asks (start _ (frequency _) c.requires) next c.take_at-four.result c.take_at-four.ensures
 
-    indexed : tie.After-four → Along Freq
-    indexed c = gave (index c.before.before) c.four.given.1
+    indexed : tie.In-Value → Along Freq
+    indexed c = gave (index c.before) c.in-Value.is
 
-    above-12 : (c : tie.After-four) → 12 < c.four.given.0.0 → Along Freq
+    above-12 : (c : tie.In-Value) → 12 < c.in-Value.i → Along Freq
     above-12 c h = unless (indexed c) either (lt-leb _ 12 h)
 
-    returns-2 : tie.Need-returns-2
+    returns-2 : tie.Need-returns-in-15
     returns-2 c =
-        let f = c.before.before.before in
-        last (when (above-12 f (omega arith)) either (eq-eqb f.four.given.0.0 15 (omega arith)))
+        let f = c in
+        last (when (above-12 f.before.before (omega arith)) either (eq-eqb f.in-Value.i 15 (omega arith)))
         c.hertz_of.ensures
 
-    returns-3 : tie.Need-returns-3
+    returns-3 : tie.Need-returns-in-0-to-12
     returns-3 c =
-        let f = c.before.before.before in
-        ends (when (indexed f) either (le-leb f.four.given.0.0 12 (omega arith))) gives
+        let f = c in
+        ends (when (indexed f.before) either (le-leb f.in-Value.i 12 (omega arith))) gives
 
-    returns-4 : tie.Need-returns-4
+    returns-4 : tie.Need-returns-in_default-i
     returns-4 c =
-        let f = c.before.before.before.before in
-        let other : f.four.given.0.0 ≡ 15 → ⊥ = λ e. omega arith in
-        ends (unless (above-12 f (omega arith)) either (ne_eqb _ 15 other))
-        (refuses (took _ 4 (came (index f.before.before) f.four.given.1)).moved c.refused_at.ensures)
+        let f = c in
+        let other : f.in-Value.i ≡ 15 → ⊥ = λ e. omega arith in
+        ends (unless (above-12 f.before.before (omega arith)) either (ne_eqb _ 15 other))
+        (refuses (took _ 4 (came (index f.before.before.before) f.in-Value.is)).moved c.refused_at.ensures)

@@ -12,40 +12,40 @@ use Rattle.asc.proofs.Types.{five_bits}
 use Rattle.asc.proofs.signalling.extension_type.Statement.{statement}
 use Rattle.asc.proofs.signalling.extension_type.Tie as tie
 
-pub extension-type-spec : {M : Type 1} → statement M
+pub extension_type_spec : {M : Type 1} → statement M
 unfolding extension_type
-extension-type-spec =
+extension_type_spec =
     tie.close
     (tie.spec (λ c κs. search rules) (λ c. search rules) (λ c. search rules) (λ c κs. search rules)
-    (λ c. hands (type c.before.before.before) c.before.enum_told.given.1 c.why.ensures)
-    (λ c κs. (typed c.before.before).stands) (λ c κs. search rules)
+    (λ c. hands (type c.before.before) c.in_default.is c.why.ensures)
+    (λ c κs. (typed c.before).stands) (λ c κs. search rules)
     returns-2
     returns-3
     returns-4)
   where
-    type : tie.After-any-type → Asked told_fetched Form
-    type c = asks (start _ (extension_type _) c.before.before.requires) next c.any_type.result c.any_type.ensures
+    type : tie.After-any_type-number → Asked told_fetched Form
+    type c = asks (start _ (extension_type _) c.requires) next c.any_type-number.result c.any_type-number.ensures
 
-    typed : tie.After-number → Along Form
-    typed c = gave (type c.before.before) c.number.given.1
+    typed : tie.In-Value → Along Form
+    typed c = gave (type c.before) c.in-Value.is
 
-    not-5 : (c : tie.After-number) → (c.number.given.0.0 ≡ 5 → ⊥) → Along Form
+    not-5 : (c : tie.In-Value) → (c.in-Value.t ≡ 5 → ⊥) → Along Form
     not-5 c h = unless (typed c) either (ne_eqb _ 5 h)
 
-    returns-2 : tie.Need-returns-2
+    returns-2 : tie.Need-returns-in-5
     returns-2 c =
-        let n = c.before.before.before in
-        last (when (typed n) either (eq-eqb n.number.given.0.0 5 (omega arith))) c.sbr_extension.ensures
+        let n = c in
+        last (when (typed n.before.before) either (eq-eqb n.in-Value.t 5 (omega arith))) c.sbr_extension.ensures
 
-    returns-3 : tie.Need-returns-3
+    returns-3 : tie.Need-returns-in-22
     returns-3 c =
-        let n = c.before.before.before in
-        ends (when (not-5 n (λ e. omega arith)) either (eq-eqb n.number.given.0.0 22 (omega arith)))
-        (refuses (five_bits _ (came (type n.before.before) n.number.given.1) (omega arith))
+        let n = c in
+        ends (when (not-5 n.before.before (λ e. omega arith)) either (eq-eqb n.in-Value.t 22 (omega arith)))
+        (refuses (five_bits _ (came (type n.before.before.before) n.in-Value.is) (omega arith))
         c.refused_at.ensures)
 
-    returns-4 : tie.Need-returns-4
+    returns-4 : tie.Need-returns-in_default-t
     returns-4 c =
-        let n = c.before.before in
-        let other : n.number.given.0.0 ≡ 22 → ⊥ = λ e. omega arith in
-        ends (unless (not-5 n (λ e. omega arith)) either (ne_eqb _ 22 other)) gives
+        let n = c in
+        let other : n.in-Value.t ≡ 22 → ⊥ = λ e. omega arith in
+        ends (unless (not-5 n.before (λ e. omega arith)) either (ne_eqb _ 22 other)) gives

@@ -10,28 +10,28 @@ use Rattle.asc.specs.Answer.{told_rated}
 use Rattle.asc.proofs.signalling.sbr_extension.Statement.{statement}
 use Rattle.asc.proofs.signalling.sbr_extension.Tie as tie
 
-pub sbr-extension-spec : {M : Type 1} → statement M
+pub sbr_extension_spec : {M : Type 1} → statement M
 unfolding sbr_extension
-sbr-extension-spec =
+sbr_extension_spec =
     tie.close
     (tie.spec (λ c κs. search rules) (λ c. search rules) (λ c. search rules) (λ c κs. search rules)
-    (λ c. hands (flag c.before.before.before) c.before.enum_told.given.1 c.why.ensures)
-    (λ c κs. (flagged c.before.before).stands) (λ c. search rules) (λ c. search rules)
-    (λ c. stops (rate c.before.before.before) c.before.x.given.1)
+    (λ c. hands (flag c.before.before) c.in_default.is c.why.ensures)
+    (λ c κs. (flagged c.before).stands) (λ c. search rules) (λ c. search rules)
+    (λ c. stops (rate c.before) c.in-Refused.is)
     (λ c κs. (rated c.before).stands) (λ c. last (rated c.before.before) c.ps_tail.ensures)
-    (λ c. ends (unless (flagged c.before.before) either (ne_eqb _ 1 c.if1.false)) gives))
+    (λ c. ends (unless (flagged c.before) either (ne_eqb _ 1 c.if-f-eq1.false)) gives))
   where
-    flag : tie.After-take-at → Asked told_fetched Form
-    flag c = asks (start _ (sbr_extension _) c.before.before.requires) next c.take_at.result c.take_at.ensures
+    flag : tie.After-take_at-flag → Asked told_fetched Form
+    flag c = asks (start _ (sbr_extension _) c.requires) next c.take_at-flag.result c.take_at-flag.ensures
 
-    flagged : tie.After-flag → Along Form
-    flagged c = gave (flag c.before.before) c.flag.given.1
+    flagged : tie.In-Value → Along Form
+    flagged c = gave (flag c.before) c.in-Value.is
 
-    rate : tie.After-frequency-of → Asked told_rated Form
+    rate : tie.After-frequency_of → Asked told_rated Form
     rate c =
-        let i = c.before in
-        asks (when (flagged i.before.before) either (eq-eqb _ 1 i.if1.true)) next c.frequency_of.result
+        let i = c in
+        asks (when (flagged i.before.before) either (eq-eqb _ 1 i.if-f-eq1.true)) next c.frequency_of.result
         c.frequency_of.ensures
 
-    rated : tie.After-r → Along Form
-    rated c = gave (rate c.before.before) c.r.given.1
+    rated : tie.In-Value-frequency_of → Along Form
+    rated c = gave (rate c.before) c.in-Value-frequency_of.is

@@ -9,20 +9,20 @@ use Rattle.asc.specs.Asc.{sync_extension}
 use Rattle.asc.proofs.signalling.sync_extension.Statement.{statement}
 use Rattle.asc.proofs.signalling.sync_extension.Tie as tie
 
-pub sync-extension-spec : {M : Type 1} → statement M
+pub sync_extension_spec : {M : Type 1} → statement M
 unfolding sync_extension
-sync-extension-spec =
+sync_extension_spec =
     tie.close
     (tie.spec (λ c κs. search rules) (λ c. search rules) (λ c. search rules) (λ c κs. search rules)
-    (λ c. hands (sync c.before.before.before) c.before.enum_told.given.1 c.why.ensures)
+    (λ c. hands (sync c.before.before) c.in_default.is c.why.ensures)
     (λ c κs. (extended c).stands) (λ c. last (extended c.before) c.extension_type.ensures)
-    (λ c. ends (unless (synced c.before.before) either (ne_eqb _ 695 c.if1.false)) gives))
+    (λ c. ends (unless (synced c.before) either (ne_eqb _ 695 c.if-s-eq695.false)) gives))
   where
-    sync : tie.After-take-at → Asked told_fetched Form
-    sync c = asks (start _ (sync_extension _) c.before.before.requires) next c.take_at.result c.take_at.ensures
+    sync : tie.After-take_at-sync → Asked told_fetched Form
+    sync c = asks (start _ (sync_extension _) c.requires) next c.take_at-sync.result c.take_at-sync.ensures
 
-    synced : tie.After-sync → Along Form
-    synced c = gave (sync c.before.before) c.sync.given.1
+    synced : tie.In-Value → Along Form
+    synced c = gave (sync c.before) c.in-Value.is
 
-    extended : tie.Then1 → Along Form
-    extended c = when (synced c.before.before) either (eq-eqb _ 695 c.if1.true)
+    extended : tie.Then-s-eq695 → Along Form
+    extended c = when (synced c.before) either (eq-eqb _ 695 c.if-s-eq695.true)
