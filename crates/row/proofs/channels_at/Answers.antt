@@ -13,6 +13,5 @@ returns-in_default c = let e : c.args.c ≡ 0 = omega arith in rw e
 
 pub returns-in_default-2 : goal.returns-in_default-2
 returns-in_default-2 c =
-    let n = c.in_default-1.rest.1 in
     let h : 8 ≤ c.args.c = omega arith in
     past_channels _ h

@@ -9,7 +9,7 @@ pub overflow_cast-result : goal.overflow_cast-result
 overflow_cast-result c = omega (arith, c.type_inv.s c.args.i)
 
 pub returns-then-i-s : goal.returns-then-i-s
-returns-then-i-s c = (search rules, omega (arith, c.type_inv.s c.args.i))
+returns-then-i-s c = record { is = search rules; small = omega (arith, c.type_inv.s c.args.i) }
 
 pub returns : goal.returns
-returns c = (sym (get_or-eq_default c.args.s.now 0 c.if-i-s.false), omega arith)
+returns c = record { is = sym (get_or-eq_default c.args.s.now 0 c.if-i-s.false); small = omega arith }

@@ -18,18 +18,18 @@ add-from c = omega (arith, within c, c.shared_slice_known-1.given 0)
 add-to : tie.Need-overflow_add-to
 add-to c = omega (arith, within c)
 
-part-result-end : tie.Need-slice-bounds-result-end
+part-result-end : tie.Need-slice_bounds-result-end
 part-result-end c = omega (arith, within c)
 
 returns : tie.Need-returns-then-ends_within
 returns c =
-    let d = c.before in
+    let d = c in
     let a = d.args in
     element_in_law a.capture.now a.place a.size (sym d.ends_within.ensures ∙ d.if-ends_within.true)
 
-returns-2 : tie.Need-returns-then-ends_within
+returns-2 : tie.Need-returns
 returns-2 c =
-    let d = c.before in
+    let d = c in
     let a = d.args in
     element_out a.capture.now a.place a.size (sym d.ends_within.ensures ∙ d.if-ends_within.false)
 

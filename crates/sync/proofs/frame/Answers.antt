@@ -33,7 +33,7 @@ shape_of-out c = stored_length c.lay-end.ensures.1 ∙ rw (length-set, length-se
 
 pub returns : goal.returns
 returns c =
-    let e = c.before.before.before.before.before in
+    let e = c in
     let a = e.args in
     let l = c.lay-end.ensures in
     let h = e.if-out-n.false in (

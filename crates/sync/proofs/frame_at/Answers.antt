@@ -7,7 +7,7 @@ pub returns-then-marked : goal.returns-then-marked
 returns-then-marked c =
     let a = c.args in
     frame_is a.s.now a.p c.size_at-n.result _ (sym c.marked.ensures
-    ∙ c.if-marked.true) c.size_at-n.ensures.0 c.marked-then-marked.ensures
+    ∙ c.if-marked.true) c.size_at-n.ensures.is c.marked-then-marked.ensures
 
 pub returns : goal.returns
 returns c =

@@ -14,16 +14,16 @@ returns-then-capture-gt65536 c =
 
 pub returns-then-frame_at : goal.returns-then-frame_at
 returns-then-frame_at c =
-    let l = c.before.before.before.before.before in
+    let l = c in
     let a = l.args in
     let s = a.capture.now in
     hunt_is s a.start l.loop-p.invariant.0
     (sym l.loop-p.invariant.1 ∙ first_here s l.loop-p.p (omega arith) (sym c.frame_at.ensures
-    ∙ c.if-frame_at.true) ∙ ap (Found l.loop-p.p) (sym c.size_at.ensures.0))
+    ∙ c.if-frame_at.true) ∙ ap (Found l.loop-p.p) (sym c.size_at.ensures.is))
 
 pub loop-p-preserved : goal.loop-p-preserved
 loop-p-preserved c =
-    let l = c.before.before.before.before in
+    let l = c in
     let a = l.args in (
       l.loop-p.invariant.0,
       sym (first_on a.capture.now l.loop-p.p (omega arith) (sym c.frame_at.ensures
@@ -32,7 +32,7 @@ loop-p-preserved c =
 
 pub returns : goal.returns
 returns c =
-    let l = c.before.before.before in
+    let l = c in
     let a = l.args in
     hunt_is a.capture.now a.start l.loop-p.invariant.0
     (sym l.loop-p.invariant.1 ∙ first_none a.capture.now l.loop-p.p (omega arith)

@@ -23,7 +23,7 @@ loop-holds c = (omega arith, refl)
 
 loop-again : tie.Need-loop-left-preserved invariant-loop-left decreases-loop-left
 loop-again c =
-    let l = c.before.before.before.before.before.before in
+    let l = c in
     let a = l.args in
     let e : l.loop-left.left - 1 + 1 ≡ l.loop-left.left = omega arith in (
       omega arith,

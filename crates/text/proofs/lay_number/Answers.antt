@@ -6,8 +6,8 @@ use Rattle.text.proofs.lay_number.Goals as goal
 
 pub returns : goal.returns
 returns c =
-    let d = c.before.before.before.before.before in
-    let s = d.before.before.before.before.before in (
+    let d = c in
+    let s = d in (
       refl,
       stored_one _ d.lay_figures.ensures c.store.ensures
           (omega (arith, s.requires)),

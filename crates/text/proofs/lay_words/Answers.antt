@@ -5,5 +5,5 @@ use Rattle.text.proofs.lay_words.Goals as goal
 
 pub returns : goal.returns
 returns c =
-    let s = c.before.before.before.before.before.before.before in
+    let s = c in
     rw (past_words s.args.number (omega arith)) c.lay_known-2.ensures
