@@ -1,5 +1,6 @@
 // StreamMuxConfig in parts, as its definition in specs/ gives them.
 #![tactic(auto)]
+
 use records::Stream;
 
 // The values of StreamMuxConfig up to numProgram.

@@ -1,6 +1,7 @@
 // The writers of StreamMuxConfig, one for each production of config's specs/: each puts its bits and gives the bit
 // after them.
 #![tactic(auto)]
+
 mod audio;
 mod present;
 

@@ -21,7 +21,7 @@ full_more : (s : List ℕ) (at k : ℕ) → value_at s at 8 ≡ 255 → Full s (
 full_more s at k e f =
     record {
       inside = omega (arith, f.inside);
-      ones = λ j. elim j [
+      ones = λ j. elim j as (λ i. i < suc k → value_at s (at + 8 * i) 8 ≡ 255) [
         | zero ↦ λ l. let p : at + 8 * 0 ≡ at = omega arith in rw p e
         | suc i ↦ λ l. let p : at + 8 * suc i ≡ at + 8 + 8 * i = omega arith in rw p (f.ones i (omega arith))
       ];

@@ -1,5 +1,6 @@
 // One AudioMuxElement: what is held, and what a reading replies.
 #![tactic(auto)]
+
 ghost use Rattle.std.specs.Prelude.{◌≡◌};
 ghost use Rattle.element.specs.Reply.{nothing_held, held_by};
 

@@ -1,6 +1,7 @@
 // The readers of one layer of StreamMuxConfig, which is one stream: its configuration, sent or that of the stream
 // before, and its frame length.
 #![tactic(auto)]
+
 ghost use Rattle.std.specs.Prelude.{eqb};
 ghost use Rattle.kernel.specs.Reading.{choose, Stands};
 ghost use Rattle.kernel.specs.Promises.{Tells};

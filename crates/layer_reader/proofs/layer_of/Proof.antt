@@ -7,21 +7,21 @@ use Rattle.config.specs.Mux.{layer}
 use Rattle.layer_reader.proofs.layer_of.Statement.{statement}
 use Rattle.layer_reader.proofs.layer_of.Tie as tie
 
-pub layer-of-spec : {M : Type 1} → statement M
+pub layer_of_spec : {M : Type 1} → statement M
 unfolding layer
-layer-of-spec =
+layer_of_spec =
     tie.close
     (tie.spec (λ c κs. search rules) (λ c. search rules) (λ c. search rules)
-    (λ c. stops (config c.before.before.before) c.before.x.given.1)
+    (λ c. stops (config c.before) c.in-Refused.is)
     (λ c κs. (configured c.before.before).stands)
     (λ c. last (configured c.before.before.before) c.frame_length.ensures))
   where
-    config : tie.After-layer-config → Asked told_configured Stream
+    config : tie.After-layer_config → Asked told_configured Stream
     config c =
-        let s = c.before.before in
+        let s = c in
         let a = s.args in
         asks (start _ (layer a.version a.next a.before) s.requires) next c.layer_config.result
         c.layer_config.ensures
 
-    configured : tie.After-r → Along Stream
-    configured c = gave (config c.before.before) c.r.given.1
+    configured : tie.In-Value → Along Stream
+    configured c = gave (config c.before) c.in-Value.is

@@ -9,23 +9,23 @@ use Rattle.config.specs.Mux.{sent_or_same}
 use Rattle.layer_reader.proofs.sent_or_same.Statement.{statement}
 use Rattle.layer_reader.proofs.sent_or_same.Tie as tie
 
-pub sent-or-same-spec : {M : Type 1} → statement M
+pub sent_or_same_spec : {M : Type 1} → statement M
 unfolding sent_or_same
-sent-or-same-spec =
+sent_or_same_spec =
     tie.close
     (tie.spec (λ c κs. search rules) (λ c. search rules) (λ c. search rules) (λ c κs. search rules)
-    (λ c. hands (flag c.before.before.before) c.before.enum_told.given.1 c.why.ensures)
-    (λ c. ends (when (flagged c.before.before) either (eq-eqb _ 1 c.if1.true)) gives)
+    (λ c. hands (flag c.before.before) c.in_default.is c.why.ensures)
+    (λ c. ends (when (flagged c.before) either (eq-eqb _ 1 c.if-same-eq1.true)) gives)
     (λ c κs. (sent c).stands) (λ c. last (sent c.before) c.configuration_of.ensures))
   where
-    flag : tie.After-fetch → Asked told_fetched Config
+    flag : tie.After-fetch-one → Asked told_fetched Config
     flag c =
-        let s = c.before.before in
-        asks (start _ (sent_or_same s.args.version s.args.before) s.requires) next c.fetch.result
-        c.fetch.ensures
+        let s = c in
+        asks (start _ (sent_or_same s.args.version s.args.before) s.requires) next c.fetch-one.result
+        c.fetch-one.ensures
 
-    flagged : tie.After-one → Along Config
-    flagged c = gave (flag c.before.before) c.one.given.1
+    flagged : tie.In-Value → Along Config
+    flagged c = gave (flag c.before) c.in-Value.is
 
-    sent : tie.Else1 → Along Config
-    sent c = unless (flagged c.before.before) either (ne_eqb _ 1 c.if1.false)
+    sent : tie.Else-same-eq1 → Along Config
+    sent c = unless (flagged c.before) either (ne_eqb _ 1 c.if-same-eq1.false)

@@ -11,43 +11,43 @@ use Rattle.config.specs.Mux.{windowed}
 use Rattle.layer_reader.proofs.windowed_of.Statement.{statement}
 use Rattle.layer_reader.proofs.windowed_of.Tie as tie
 
-pub windowed-of-spec : {M : Type 1} → statement M
+pub windowed_of_spec : {M : Type 1} → statement M
 unfolding windowed ◌>>◌
-windowed-of-spec =
+windowed_of_spec =
     tie.close
     (tie.spec (λ c κs. search rules) (λ c. search rules) (λ c. search rules) (λ c κs. search rules)
-    (λ c. hands (length c.before.before.before) c.before.enum_told.given.1 c.why.ensures)
-    (λ c. search rules) (λ c. omega (arith, (measured c.before.before).stands))
-    (λ c κs. (measured c.before.before).stands) (λ c. search rules) (λ c. search rules)
-    (λ c. stops (config c.before.before.before) c.before.x.given.1) (λ c κs. search rules)
+    (λ c. hands (length c.before.before) c.in_default.is c.why.ensures)
+    (λ c. search rules) (λ c. omega (arith, (measured c.before).stands))
+    (λ c κs. (measured c.before).stands) (λ c. search rules) (λ c. search rules)
+    (λ c. stops (config c.before) c.in-Refused.is) (λ c κs. search rules)
     skip-requires
     (λ c. search rules) (λ c. search rules)
-    (λ c. stops (fill c.before.before.before) c.before.x2.given.1)
-    (λ c. let f = c.before.before in ends (gave (fill f.before.before) f.c3.given.1) gives))
+    (λ c. stops (fill c.before) c.in-Refused-skip.is)
+    (λ c. let f = c in ends (gave (fill f.before.before) f.in-To.is) gives))
   where
-    length : tie.After-latm-get-value → Asked told_fetched Config
+    length : tie.After-latm_get_value-length → Asked told_fetched Config
     length c =
-        asks (start _ windowed c.before.before.requires) next c.latm_get_value.result c.latm_get_value.ensures
+        asks (start _ windowed c.requires) next c.latm_get_value-length.result c.latm_get_value-length.ensures
 
-    measured : tie.After-length → Along Config
-    measured c = noted (gave (length c.before.before) c.length.given.1) next
+    measured : tie.In-Value → Along Config
+    measured c = noted (gave (length c.before) c.in-Value.is) next
 
-    config : tie.After-audio-specific-config → Asked told_configured Config
+    config : tie.After-audio_specific_config → Asked told_configured Config
     config c =
-        asks (measured c.before.before.before) next c.audio_specific_config.result
+        asks (measured c.before.before) next c.audio_specific_config.result
         c.audio_specific_config.ensures
 
-    configured : tie.After-r → Along Config
-    configured c = noted (gave (config c.before.before) c.r.given.1) next
+    configured : tie.In-Value-audio_specific_config → Along Config
+    configured c = noted (gave (config c.before) c.in-Value-audio_specific_config.is) next
 
     -- up to ascLen
     fill : tie.After-skip → Asked told_reached Config
     fill c =
-        asks (configured c.before.before.before.before) next c.skip.result
-        (rw c.before.left_of.ensures at c.skip.ensures)
+        asks (configured c.before.before.before) next c.skip.result
+        (rw c.left_of.ensures at c.skip.ensures)
 
     skip-requires : tie.Need-skip-requires
     skip-requires c κs =
-        let r = c.before.before.before in
+        let r = c in
         let l = measured r.before.before.before.before.before in
-        (omega (arith, c.left_of.ensures, l.stands), (configured r).stands)
+        (omega (arith, c.left_of.ensures, l.stands), (configured r.before.before).stands)
