@@ -1,5 +1,6 @@
 // The readers of StreamMuxConfig, one for each production of crates/config/specs/Mux.antt.
 #![tactic(auto)]
+
 mod ending_fields;
 mod head_fields;
 mod layers;

@@ -1,5 +1,6 @@
 // The map of an element read back, and the bits of its items copied.
 #![tactic(auto)]
+
 ghost use Rattle.std.specs.Prelude.{◌≡◌, ◌+◌, ◌*◌, ◌%◌, ◌≤◌, length};
 ghost use Rattle.kernel.specs.Bits.{value_at, Put};
 ghost use Rattle.items.specs.Items.{item_at};

@@ -1,5 +1,6 @@
 // The lines of the summary, laid into lent bytes: rows, and refused elements.
 #![tactic(auto)]
+
 mod lines;
 mod rows;
 

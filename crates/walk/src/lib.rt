@@ -1,5 +1,6 @@
 // The walk over an element behind its configuration: dry, or storing the map.
 #![tactic(auto)]
+
 mod slots;
 
 ghost use Rattle.std.specs.Prelude.{◌≡◌, cond, [], ◌∷◌, ◌+◌, ◌*◌, ◌≤◌, length, take};

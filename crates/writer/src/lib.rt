@@ -1,5 +1,6 @@
 // The writer of elements.
 #![tactic(auto)]
+
 mod measures;
 
 ghost use Rattle.std.specs.Prelude.{◌≡◌, true, ◌+◌, ◌-◌, ◌*◌, ◌/◌, ◌%◌, ◌≤◌, eqb, length, take, drop};

@@ -10,51 +10,51 @@ use Rattle.config_reader.proofs.Beside.{refusing}
 use Rattle.config_reader.proofs.stream_mux_config.Statement.{statement}
 use Rattle.config_reader.proofs.stream_mux_config.Tie as tie
 
-pub stream-mux-config-spec : {M : Type 1} → statement M
+pub stream_mux_config_spec : {M : Type 1} → statement M
 unfolding stream_mux_config
-stream-mux-config-spec =
+stream_mux_config_spec =
     tie.close
     (tie.spec (λ c κs. search rules) (λ c. search rules) (λ c. search rules) (λ c κs. search rules)
     (λ c. refusing _ _ _ _ _ _ _ _ c.refused_mux.ensures
-    (stops (head c.before.before.before.before) c.before.before.x.given.1))
+    (stops (head c.before.before) c.in-Refused.is))
     programs-of-requires (λ c. search rules) (λ c. search rules) (λ c κs. search rules)
-    (λ c. refusing _ _ _ _ _ _ _ _ c.refused-mux2.ensures
-    (stops (places c.before.before.before.before) c.before.before.reached2.given.1))
-    (λ c κs. (gave (places c.before.before.before) c.before.reached.given.1).stands)
+    (λ c. refusing _ _ _ _ _ _ _ _ c.refused_mux-in-Refused-reached.ensures
+    (stops (places c.before.before) c.in-Refused-reached.is))
+    (λ c κs. (gave (places c.before) c.in-To.is).stands)
     (λ c. search rules) (λ c. search rules) (λ c κs. search rules)
-    (λ c. refusing _ _ _ _ _ _ _ _ c.refused-mux3.ensures
-    (stops (ending c.before.before.before.before) c.before.before.x2.given.1))
+    (λ c. refusing _ _ _ _ _ _ _ _ c.refused_mux-in-Refused-ending_of.ensures
+    (stops (ending c.before.before) c.in-Refused-ending_of.is))
     (λ c κs. search rules) returns-4)
   where
-    head : tie.After-head-of → Asked told_headed Record
-    head c = asks (start _ stream_mux_config c.before.before.requires) next c.head_of.result c.head_of.ensures.0
+    head : tie.After-head_of → Asked told_headed Record
+    head c = asks (start _ stream_mux_config c.requires) next c.head_of.result c.head_of.ensures.0
 
-    headed : tie.After-r → Along Record
-    headed c = gave (head c.before.before) c.r.given.1
+    headed : tie.In-Value → Along Record
+    headed c = gave (head c.before) c.in-Value.is
 
-    places : (c : tie.After-programs-of) → Asked (told_with (places_of c.programs_of.result)) Record
+    places : (c : tie.After-programs_of-placed) → Asked (told_with (places_of c.programs_of-placed.result)) Record
     places c =
-        asks (headed c.before.before.before.before) next c.programs_of.result.reached
-        c.programs_of.ensures.0.0.0
+        asks (headed c.before.before.before.before) next c.programs_of-placed.result.reached
+        c.programs_of-placed.ensures.0.0.0
 
-    ending : tie.After-ending-of → Asked told_ended Record
+    ending : tie.After-ending_of → Asked told_ended Record
     ending c =
-        let v = c.before.before in
-        asks (gave (places v.before.before) v.reached.given.1) next c.Ending-of.result
-        c.Ending-of.ensures
+        let v = c in
+        asks (gave (places v.before.before) v.in-To.is) next c.ending_of.result
+        c.ending_of.ensures
 
-    programs-of-requires : tie.Need-programs-of-requires
+    programs-of-requires : tie.Need-programs_of-placed-requires
     programs-of-requires c κs =
-        let r = c.before.before.before in
-        ((rw r.r.given.1 at r.before.before.head_of.ensures.1).0, (headed r).stands)
+        let r = c in
+        ((rw r.in-Value.is at r.head_of.ensures.1).0, (headed r.before.before.before).stands)
 
-    returns-4 : tie.Need-returns-4
+    returns-4 : tie.Need-returns
     returns-4 c =
-        let t = c.before.before.before.before.before.before in
-        let v = t.before.before.before.before in
-        let p = v.before.before in
-        let r = p.before.before.before.before in
-        let done = rw v.reached.given.1 at p.programs_of.ensures in
-        let few = rw r.r.given.1 at r.before.before.head_of.ensures.1 in
-        rw c.before.record_of.ensures
-        (((ends (gave (ending t.before.before) t.r2.given.1) gives, tt), done.0.1), (few.1, done.1))
+        let t = c in
+        let v = t in
+        let p = v in
+        let r = p in
+        let done = rw v.in-To.is at p.programs_of-placed.ensures in
+        let few = rw r.in-Value.is at r.head_of.ensures.1 in
+        rw c.record_of-config.ensures
+        (((ends (gave (ending t.before.before.before.before.before.before) t.in-Value-ending_of.is) gives, tt), done.0.1), (few.1, done.1))

@@ -16,85 +16,85 @@ use Rattle.walk.proofs.finish.Statement.{statement}
 use Rattle.walk.proofs.finish.Tie as tie
 
 -- few items stand in front
-front : (f : tie.After-front-count) → f.front_count.result ≤ 2
-front f = rw f.front_count.ensures (few_front f.before.before.before.args.sent)
+front : (f : tie.After-front_count-k) → f.front_count-k.result ≤ 2
+front f = rw f.front_count-k.ensures (few_front f.args.sent)
 
-rest-of-requires : tie.Need-rest-of-requires
+rest-of-requires : tie.Need-rest_of-dry-requires
 rest-of-requires c κs =
-    let f = c.before in
-    let r = f.before.before.before.requires in
-    (r.0, (r.3, r.1, omega (arith, front f, r.0)))
+    let f = c in
+    let r = f.requires in
+    (r.0, (r.3, r.1, omega (arith, front f.before, r.0)))
 
-returns : tie.Need-returns
+returns : tie.Need-returns-then-place-el
 returns c =
-    let i = c.before in
-    let g = i.before.before in
-    let p = g.before.before.before.before in
-    let a = p.before.before.before.before.before.args in
+    let i = c in
+    let g = i in
+    let p = g in
+    let a = p.args in
     let x = walk a.el.now (planned a.plan) a.c.at a.c.fields in
     let f = finish_over a.sent a.c.at _ (8 * length a.el.now) a.map.now x _ _ _
-    (p.rest_of.ensures.0.told ∙ ap told_walked g.dry2.given.1) i.if1.true in
-    (ap Refused c.refused_at.ensures ∙ f.0, sym p.rest_of.ensures.0.stored ∙ f.1)
+    (p.rest_of-dry.ensures.0.told ∙ ap told_walked g.in-Items.is) i.if-place-el.true in
+    (ap Refused c.refused_at.ensures ∙ f.0, sym p.rest_of-dry.ensures.0.stored ∙ f.1)
 
-cast-push-front : tie.Need-overflow-cast-push-front
+cast-push-front : tie.Need-overflow_cast-c
 cast-push-front c = omega arith
 
-push-front-requires : tie.Need-push-front-requires
+push-front-requires : tie.Need-push_front-requires
 push-front-requires c κs =
-    let p = c.before.before.before.before.before.before.before.before in
-    (omega (arith, p.rest_of.auto.1.1.1.1.0), omega arith)
+    let p = c in
+    (omega (arith, p.rest_of-dry.auto.1.1.1.1.0), omega arith)
 
-rest-of-requires-2 : tie.Need-rest-of-requires-2
+rest-of-requires-2 : tie.Need-rest_of-requires
 rest-of-requires-2 c κs =
-    let t = c.before.before.before in
-    let g = t.before.before.before.before.before in
-    let p = g.before.before.before.before in
-    let r = p.before.before.before.before.before.requires in (
+    let t = c in
+    let g = t in
+    let p = g in
+    let r = p.requires in (
       r.0,
       (
         r.3,
-        omega (arith, r.1, p.rest_of.auto.1.1.1.1.0, t.push_front.auto.0),
+        omega (arith, r.1, p.rest_of-dry.auto.1.1.1.1.0, t.push_front.auto.0),
         omega
-            (arith, front p.before.before, r.0),
+            (arith, front p.before.before.before.before.before.before.before.before.before.before.before.before, r.0),
       ),
     )
 
-cast-t22 : tie.Need-overflow-cast-t22
+cast-t22 : tie.Need-overflow_cast-result
 cast-t22 c =
-    let t = c.before.before.before.before.before.before.before in
-    let g = t.before.before.before.before.before in
-    let p = g.before.before.before.before in
-    let r = p.before.before.before.before.before.requires in
-    omega (arith, goes_steady (goes_told p.rest_of.ensures.0 (ap told_walked g.dry2.given.1)) r.3)
+    let t = c in
+    let g = t in
+    let p = g in
+    let r = p.requires in
+    omega (arith, goes_steady (goes_told p.rest_of-dry.ensures.0 (ap told_walked g.in-Items.is)) r.3)
 
-returns-2 : tie.Need-returns-2
+returns-2 : tie.Need-returns-in-Refused
 returns-2 c =
-    let d = c.before in
-    let p = d.before.before.before.before in
-    let a = p.before.before.before.before.before.args in
+    let d = c in
+    let p = d in
+    let a = p.args in
     let x = walk a.el.now (planned a.plan) a.c.at a.c.fields in
     let f = finish_refused a.sent a.c.at _ (8 * length a.el.now) a.map.now x _
-    (p.rest_of.ensures.0.told ∙ ap told_walked d.dry.given.1) in
-    (f.0, sym p.rest_of.ensures.0.stored ∙ f.1)
+    (p.rest_of-dry.ensures.0.told ∙ ap told_walked d.in-Refused.is) in
+    (f.0, sym p.rest_of-dry.ensures.0.stored ∙ f.1)
 
-returns-3 : tie.Need-returns-3
+returns-3 : tie.Need-returns-else-place-el
 returns-3 c =
-    let u = c.before.before.before in
-    let t = u.before.before.before.before in
-    let g = t.before.before.before.before.before in
-    let p = g.before.before.before.before in
-    let a = p.before.before.before.before.before.args in
-    let r = p.before.before.before.before.before.requires in
+    let u = c in
+    let t = u in
+    let g = t in
+    let p = g in
+    let a = p.args in
+    let r = p.requires in
     let x = walk a.el.now (planned a.plan) a.c.at a.c.fields in
-    let e = rw g.dry2.given.1 at p.rest_of.ensures.1 in
-    let h : g.dry2.given.0.1.0.at ≡ 8 * length a.el.now = omega arith in
+    let e = rw g.in-Items.is at p.rest_of-dry.ensures.1 in
+    let h : g.in-Items.c1.at ≡ 8 * length a.el.now = omega arith in
     finish_counted a.sent a.c.at (8 * length a.el.now) a.map.now _ _ x _ _ _ _
-    p.before.before.front_count.ensures
-    (p.rest_of.ensures.0.told
-    ∙ ap told_walked g.dry2.given.1) h (omega (arith, e, front p.before.before, r.0, r.1))
+    p.front_count-k.ensures
+    (p.rest_of-dry.ensures.0.told
+    ∙ ap told_walked g.in-Items.is) h (omega (arith, e, front p.before.before.before.before.before.before.before.before.before.before.before.before.before.before.before.before, r.0, r.1))
     (t.push_front.ensures ∙ ap (λ (z : List ℕ). sets z 0 (front_numbers a.sent a.c.at))
-    (sym p.rest_of.ensures.0.stored))
-    (sym u.rest-of2.ensures.0.stored)
+    (sym p.rest_of-dry.ensures.0.stored))
+    (sym u.rest_of.ensures.0.stored)
 
 pub finish_spec : {M : Type 1} → statement M
 finish_spec =

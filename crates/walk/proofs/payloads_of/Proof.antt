@@ -11,68 +11,68 @@ use Rattle.walk.proofs.Goes.{payloads_none, payloads_more}
 use Rattle.walk.proofs.payloads_of.Statement.{statement}
 use Rattle.walk.proofs.payloads_of.Tie as tie
 
-abbrev invariant-loop : tie.invariant-loop
-invariant-loop el n k map₀ store widths cur₀ items₀ i₀ map cur items i =
+abbrev invariant-loop-i : tie.invariant-loop-i
+invariant-loop-i el n k map₀ store widths cur₀ items₀ i₀ map cur items i =
     (i ≤ n) × (items ≤ k + i)
     × Going el store (payload_mux 0 (take n widths)) cur₀.at cur₀.fields k map₀
     (payload_mux i (drop i (take n widths))) cur.at cur.fields items map
 
-abbrev decreases-loop : tie.decreases-loop
-decreases-loop el n k map₀ store widths cur₀ items₀ i₀ map cur items i = n - i
+abbrev decreases-loop-i : tie.decreases-loop-i
+decreases-loop-i el n k map₀ store widths cur₀ items₀ i₀ map cur items i = n - i
 
-wide : (l : tie.At-loop invariant-loop decreases-loop) → length l.before.before.before.args.t2 ≡ 16
+wide : (l : tie.At-loop-i invariant-loop-i decreases-loop-i) → length l.args.widths ≡ 16
 wide l = search rules
 
-loop-holds : tie.Need-loop-init invariant-loop decreases-loop
+loop-holds : tie.Need-loop-i-init invariant-loop-i decreases-loop-i
 loop-holds c = (omega arith, omega arith, going_itself (omega arith))
 
-mul-w : tie.Need-overflow-mul-w invariant-loop decreases-loop
+mul-w : tie.Need-offset_bounds-widths-i invariant-loop-i decreases-loop-i
 mul-w c = omega arith
 
-array-read-w : tie.Need-array-read-w invariant-loop decreases-loop
+array-read-w : tie.Need-bounds-widths-i invariant-loop-i decreases-loop-i
 array-read-w c = omega arith
 
-cast-pass-item : tie.Need-overflow-cast-pass-item invariant-loop decreases-loop
+cast-pass-item : tie.Need-overflow_cast-i invariant-loop-i decreases-loop-i
 cast-pass-item c = omega arith
 
-pass-item-requires : tie.Need-pass-item-requires invariant-loop decreases-loop
+pass-item-requires : tie.Need-pass_item-got-requires invariant-loop-i decreases-loop-i
 pass-item-requires c κs = omega arith
 
-returns : tie.Need-returns invariant-loop decreases-loop
+returns : tie.Need-returns-in_default invariant-loop-i decreases-loop-i
 returns c =
-    let p = c.before.before.before.before in
-    let l = p.before.before.before in
-    let a = l.before.before.before.args in
-    going_off _ _ (payloads_more a.t2 a.n l.loop.i (omega arith) (omega arith)) _
-    (p.pass_item.ensures closed).0 c.enum_told.given.1 l.loop.invariant.2
+    let p = c in
+    let l = p in
+    let a = l.args in
+    going_off _ _ (payloads_more a.widths a.n l.loop-i.i (omega arith) (omega arith)) _
+    (p.pass_item-got.ensures closed).0 c.in_default.is l.loop-i.invariant.2
 
-add-i : tie.Need-overflow-add-i invariant-loop decreases-loop
+add-i : tie.Need-overflow_add-i invariant-loop-i decreases-loop-i
 add-i c = omega arith
 
-loop-less : tie.Need-loop-smaller invariant-loop decreases-loop
+loop-less : tie.Need-loop-i-smaller invariant-loop-i decreases-loop-i
 loop-less c = omega arith
 
-loop-again : tie.Need-loop-preserved invariant-loop decreases-loop
+loop-again : tie.Need-loop-i-preserved invariant-loop-i decreases-loop-i
 loop-again c =
-    let g = c.before in
-    let p = g.before.before.before.before in
-    let l = p.before.before.before in
-    let a = l.before.before.before.args in (
+    let g = c in
+    let p = g in
+    let l = p in
+    let a = l.args in (
       omega arith,
-      (let e = rw g.got.given.1 at (p.pass_item.ensures closed).1 in omega arith),
-      going_on _ _ (payloads_more a.t2 a.n l.loop.i (omega arith) (omega (arith, wide l)))
-          (p.pass_item.ensures closed).0 g.got.given.1 p.pass_item.auto.1.1.1.1.1.1.0
-          l.loop.invariant.2,
+      (let e = rw g.in-Items.is at (p.pass_item-got.ensures closed).1 in omega arith),
+      going_on _ _ (payloads_more a.widths a.n l.loop-i.i (omega arith) (omega (arith, wide l.before.before.before.before.before.before)))
+          (p.pass_item-got.ensures closed).0 g.in-Items.is p.pass_item-got.auto.1.1.1.1.1.1.0
+          l.loop-i.invariant.2,
     )
 
-returns-2 : tie.Need-returns-2 invariant-loop decreases-loop
+returns-2 : tie.Need-returns invariant-loop-i decreases-loop-i
 returns-2 c =
-    let l = c.before in
-    let a = l.before.before.before.args in
-    (going_done (payloads_none a.t2 a.n l.loop.i (omega arith)) l.loop.invariant.2, omega arith)
+    let l = c in
+    let a = l.args in
+    (going_done (payloads_none a.widths a.n l.loop-i.i (omega arith)) l.loop-i.invariant.2, omega arith)
 
-pub payloads-of-spec : {M : Type 1} → statement M
-payloads-of-spec =
+pub payloads_of_spec : {M : Type 1} → statement M
+payloads_of_spec =
     tie.close
-    (tie.spec invariant-loop decreases-loop loop-holds mul-w array-read-w cast-pass-item pass-item-requires (λ c. search rules)
+    (tie.spec invariant-loop-i decreases-loop-i loop-holds mul-w array-read-w cast-pass-item pass-item-requires (λ c. search rules)
     (λ c. search rules) (λ c. search rules) returns add-i loop-less loop-again (λ c. search rules) returns-2)

@@ -14,57 +14,57 @@ From c =
     let a = c.args in
     Way a.el.now a.store (planned a.plan) a.c a.k (17 * a.plan.subframes + 2) a.map.now
 
-abbrev start-a : tie.After-a → tie.Start
-start-a g = g.before.before.before.before.before.before.before.before.before
+abbrev start-a : tie.In-Items → tie.Start
+start-a g = g.before.before.before.before.before.before.before.before
 
-abbrev framed : (g : tie.After-a) → From (start-a g)
+abbrev framed : (g : tie.In-Items) → From (start-a g)
 unfolding rest
 framed g =
-    let p = g.before.before.before.before in
-    step (outset p.before.before.before.before.before.requires.1.0) _ _ _ refl p.subframes_of.ensures
-    g.a.given.1 p.subframes_of.auto.1.1.1.1.1.1.0
+    let p = g in
+    step (outset p.requires.1.0) _ _ _ refl p.subframes_of-a.ensures
+    g.in-Items.is p.subframes_of-a.auto.1.1.1.1.1.1.0
 
-abbrev othered : (h : tie.After-b) → From (start-a h.before.before.before.before.before.before.before)
+abbrev othered : (h : tie.In-Items-b) → From (start-a h.before.before.before.before.before)
 unfolding rest
 othered h =
-    let q = h.before.before.before.before in
-    step (framed q.before.before.before) _ _ _ refl q.other_of.ensures h.b.given.1
-    q.other_of.auto.1.1.1.1.1.0
+    let q = h in
+    step (framed q.before.before.before.before.before) _ _ _ refl q.other_of-b.ensures h.in-Items-b.is
+    q.other_of-b.auto.1.1.1.1.1.0
 
-returns : tie.Need-returns
+returns : tie.Need-returns-in_default
 unfolding rest
 returns c =
-    let p = c.before.before.before.before in
-    falls (outset p.before.before.before.before.before.requires.1.0) _ _ _ refl p.subframes_of.ensures
-    c.enum_told.given.1
+    let p = c in
+    falls (outset p.requires.1.0) _ _ _ refl p.subframes_of-a.ensures
+    c.in_default.is
 
-other-of-requires : tie.Need-other-of-requires
+other-of-requires : tie.Need-other_of-b-requires
 unfolding framed
 other-of-requires c κs =
-    let l = framed c.before.before in
+    let l = framed c.before in
     (l.going.stands, omega (arith, l.going.same), omega (arith, l.few))
 
-returns-2 : tie.Need-returns-2
+returns-2 : tie.Need-returns-in_default-b
 unfolding rest
 returns-2 c =
-    let q = c.before.before.before.before in
-    falls (framed q.before.before.before) _ _ _ refl q.other_of.ensures c.enum-told2.given.1
+    let q = c in
+    falls (framed q.before.before.before.before.before) _ _ _ refl q.other_of-b.ensures c.in_default-b.is
 
-alignment-of-requires : tie.Need-alignment-of-requires
+alignment-of-requires : tie.Need-alignment_of-requires
 unfolding othered
 alignment-of-requires c κs =
-    let l = othered c.before.before in
+    let l = othered c.before in
     (l.going.stands, omega (arith, l.going.same), omega (arith, l.few))
 
-returns-3 : tie.Need-returns-3
+returns-3 : tie.Need-returns
 unfolding rest othered framed
 returns-3 c =
-    let t = c.before.before in
-    arrives (othered t.before.before.before) 1 _ t.alignment_of.result refl (omega arith)
+    let t = c in
+    arrives (othered t.before.before.before.before) 1 _ t.alignment_of.result refl (omega arith)
     t.alignment_of.ensures
 
-pub rest-of-spec : {M : Type 1} → statement M
-rest-of-spec =
+pub rest_of_spec : {M : Type 1} → statement M
+rest_of_spec =
     tie.close
     (tie.spec (λ c κs. search rules) (λ c. search rules) (λ c. search rules) (λ c. search rules) returns
     other-of-requires (λ c. search rules) (λ c. search rules) (λ c. search rules) returns-2 alignment-of-requires

@@ -17,52 +17,52 @@ use Rattle.walk.proofs.subframe_of.Statement.{statement}
 use Rattle.walk.proofs.subframe_of.Tie as tie
 
 -- the lengths that were read
-ran : (v : tie.After-reached) → let a = v.before.before.before.before.before.args in
+ran : (v : tie.In-To) → let a = v.args in
     Comes a.el.now (payload_length_info [] (slots_by (take a.n a.slots))) a.c.at a.c.fields
-    (value (take a.n v.before.before.lengths_of.result.widths) v.reached.given.0.0.at
-    v.reached.given.0.0.fields)
+    (value (take a.n v.lengths_of-lengths.result.widths) v.in-To.to.at
+    v.in-To.to.fields)
 ran v =
-    let l = v.before.before in
-    got (told_with (take l.before.before.before.args.n l.lengths_of.result.widths))
-    l.lengths_of.ensures.0 v.reached.given.1
+    let l = v in
+    got (told_with (take l.args.n l.lengths_of-lengths.result.widths))
+    l.lengths_of-lengths.ensures.0 v.in-To.is
 
-returns : tie.Need-returns
+returns : tie.Need-returns-in-Refused
 unfolding subframe
 returns c =
-    let f = c.before in
-    let l = f.before.before in
-    let a = l.before.before.before.args in (
-      stop_is _ _ _ (got (told_with (take a.n l.lengths_of.result.widths)) l.lengths_of.ensures.0
-          f.reached2.given.1),
+    let f = c in
+    let l = f in
+    let a = l.args in (
+      stop_is _ _ _ (got (told_with (take a.n l.lengths_of-lengths.result.widths)) l.lengths_of-lengths.ensures.0
+          f.in-Refused.is),
       tt,
     )
 
-sub-width : tie.Need-overflow-sub-width
-sub-width c = let s = ahead (ran c.before.before) in omega arith
+sub-width : tie.Need-overflow_sub-width
+sub-width c = let s = ahead (ran c.before) in omega arith
 
-cast-push-if-2 : tie.Need-overflow-cast-push-if-2
-cast-push-if-2 c = let s = steady (ran c.before.before.before) (omega arith) in omega arith
+cast-push-if-2 : tie.Need-overflow_cast-width
+cast-push-if-2 c = let s = steady (ran c.before.before) (omega arith) in omega arith
 
-payloads-of-requires : tie.Need-payloads-of-requires
+payloads-of-requires : tie.Need-payloads_of-requires
 payloads-of-requires c κs =
-    let v = c.before.before.before.before.before.before.before.before in
-    (omega arith, (steady (ran v) (omega arith), omega arith, omega arith))
+    let v = c in
+    (omega arith, (steady (ran v.before.before.before.before.before.before.before) (omega arith), omega arith, omega arith))
 
-returns-2 : tie.Need-returns-2
+returns-2 : tie.Need-returns
 unfolding subframe
 returns-2 c =
-    let p = c.before.before in
-    let u = p.before.before.before.before.before in
-    let v = u.before.before.before.before in
-    let a = v.before.before.before.before.before.args in
-    let it = item fields kind_l 0 a.c.at (v.reached.given.0.0.at - a.c.at) in
+    let p = c in
+    let u = p in
+    let v = u in
+    let a = v.args in
+    let it = item fields kind_l 0 a.c.at (v.in-To.to.at - a.c.at) in
     let e = u.push_if.ensures ∙ sym (stored_item a.store a.map.now a.k it) in (
-      forward _ (goes_part _ _ _ (ran v) goes_itself) (goes_from p.payloads_of.ensures.0 e),
+      forward _ (goes_part _ _ _ (ran v.before.before.before.before.before.before.before.before.before.before) goes_itself) (goes_from p.payloads_of.ensures.0 e),
       most_more p.payloads_of.result (a.k + 1 + a.n) (a.k + 17) (omega arith) p.payloads_of.ensures.1,
     )
 
-pub subframe-of-spec : {M : Type 1} → statement M
-subframe-of-spec =
+pub subframe_of_spec : {M : Type 1} → statement M
+subframe_of_spec =
     tie.close
     (tie.spec (λ c κs. search rules) (λ c. search rules) (λ c. search rules) returns sub-width (λ c. search rules)
     cast-push-if-2 (λ c κs. search rules) (λ c. search rules) payloads-of-requires (λ c. search rules) returns-2)

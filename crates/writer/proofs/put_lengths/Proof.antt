@@ -22,74 +22,74 @@ record Putting (out₀ : List ℕ) (at count : ℕ) (ns : List ℕ) (from : ℕ)
   rest : Left out₀ at (lengths_bits (take count streams) (drop from ns)) out to
       (lengths_bits (drop i (take count streams)) (drop (from + i) ns))
 
-abbrev invariant-loop : tie.invariant-loop
-invariant-loop out₀ at count ns from streams to₀ i₀ out to i = Putting out₀ at count ns from streams out to i
+abbrev invariant-loop-i : tie.invariant-loop-i
+invariant-loop-i out₀ at count ns from streams to₀ i₀ out to i = Putting out₀ at count ns from streams out to i
 
-abbrev decreases-loop : tie.decreases-loop
-decreases-loop out₀ at count ns from streams to₀ i₀ out to i = count - i
+abbrev decreases-loop-i : tie.decreases-loop-i
+decreases-loop-i out₀ at count ns from streams to₀ i₀ out to i = count - i
 
-loop-holds : tie.Need-loop-init invariant-loop decreases-loop
+loop-holds : tie.Need-loop-i-init invariant-loop-i decreases-loop-i
 loop-holds c =
-    let a = c.before.before.args in
+    let a = c.args in
     let e : a.from + 0 ≡ a.from = omega arith in
     let n : a.count - 0 ≡ a.count = omega arith in
     record {
       few = omega arith;
       near = omega arith;
-      small = rw (e, n) c.before.before.requires.3;
+      small = rw (e, n) c.requires.3;
       rest = rw e left_all;
     }
 
-put-slot-requires : tie.Need-put-slot-requires invariant-loop decreases-loop
+put-slot-requires : tie.Need-put_slot-to-requires invariant-loop-i decreases-loop-i
 put-slot-requires c κs =
-    let l = c.before.before.before.before.loop in
-    let s = c.before.before.before.before.before.before.before in
-    let k : length s.args.t3 ≡ 16 = search rules in
+    let l = c.loop-i in
+    let s = c in
+    let k : length s.args.streams ≡ 16 = search rules in
     let z =
-    array_sum_turn s.args.t3 s.args.count s.args.ns.now s.args.from l.i (omega arith)
+    array_sum_turn s.args.streams s.args.count s.args.ns.now s.args.from l.i (omega arith)
     (omega (arith, k, s.requires.1)) in
     omega (arith, z, l.invariant.near, l.invariant.small, s.requires.0, s.requires.1)
 
-loop-again : tie.Need-loop-preserved invariant-loop decreases-loop
+loop-again : tie.Need-loop-i-preserved invariant-loop-i decreases-loop-i
 loop-again c =
-    let p = c.before.before.put_slot.ensures in
-    let l = c.before.before.before.before.before.before.before.loop in
-    let s = c.before.before.before.before.before.before.before.before.before.before in
+    let p = c.put_slot-to.ensures in
+    let l = c.loop-i in
+    let s = c in
     let a = s.args in
-    let k : length a.t3 ≡ 16 = search rules in
+    let k : length a.streams ≡ 16 = search rules in
     let h : l.i < a.count = omega arith in
-    let m : a.count ≤ length a.t3 = omega (arith, k, s.requires.1) in
-    let z = array_sum_turn a.t3 a.count a.ns.now a.from l.i h m in
+    let m : a.count ≤ length a.streams = omega (arith, k, s.requires.1) in
+    let z = array_sum_turn a.streams a.count a.ns.now a.from l.i h m in
     record {
       few = omega arith;
       near = omega (arith, p.0, l.invariant.near);
       small = omega (arith, z, l.invariant.small);
       rest = left_put
-          (rw (array_bits_turn a.t3 a.count a.ns.now a.from l.i h m) at l.invariant.rest) p.1;
+          (rw (array_bits_turn a.streams a.count a.ns.now a.from l.i h m) at l.invariant.rest) p.1;
     }
 
-done : (c : tie.After-loop invariant-loop decreases-loop) → let a = c.before.before.before.before.args in
-    Put a.out.now a.at (lengths_bits (take a.count a.t3) (drop a.from a.ns.now))
-    c.before.loop.out c.before.loop.to
+done : (c : tie.After-loop-i invariant-loop-i decreases-loop-i) → let a = c.args in
+    Put a.out.now a.at (lengths_bits (take a.count a.streams) (drop a.from a.ns.now))
+    c.loop-i.out c.loop-i.to
 unfolding lengths_bits
 done c =
-    let l = c.before.loop in
-    let s = c.before.before.before.before in
-    let k : length s.args.t3 ≡ 16 = search rules in
+    let l = c.loop-i in
+    let s = c in
+    let k : length s.args.streams ≡ 16 = search rules in
     let e : l.i ≡ s.args.count = omega arith in
-    (rw (e, row_done s.args.t3 s.args.count (omega (arith, k, s.requires.1))) at l.invariant.rest).then put_none
+    (rw (e, row_done s.args.streams s.args.count (omega (arith, k, s.requires.1))) at l.invariant.rest).then put_none
 
-same_length : tie.Need-same-length invariant-loop decreases-loop
+same_length : tie.Need-shape_of-out invariant-loop-i decreases-loop-i
 same_length c = put_length (done c)
 
-returns : tie.Need-returns invariant-loop decreases-loop
+returns : tie.Need-returns invariant-loop-i decreases-loop-i
 returns c =
-    let i = c.before.loop.invariant in
-    (omega (arith, i.few, i.near, c.before.before.before.before.requires.1), done c)
+    let i = c.loop-i.invariant in
+    (omega (arith, i.few, i.near, c.requires.1), done c)
 
-pub put-lengths-spec : {M : Type 1} → statement M
-put-lengths-spec =
+pub put_lengths_spec : {M : Type 1} → statement M
+put_lengths_spec =
     tie.close
-    (tie.spec invariant-loop decreases-loop loop-holds (λ c. search rules) (λ c. search rules) (λ c. search rules)
+    (tie.spec invariant-loop-i decreases-loop-i loop-holds (λ c. search rules) (λ c. search rules) (λ c. search rules)
     (λ c. search rules) (λ c. search rules) put-slot-requires (λ c. search rules) (λ c. search rules) loop-again
     same_length returns)

@@ -17,63 +17,63 @@ abbrev sent : tie.Start → Sent
 sent s = let a = s.args in to_send a.r a.send a.ns.now a.payload.now a.other.now
 
 -- where the call starts, from where the size is known
-abbrev start : tie.After-slice-known3 → tie.Start
+abbrev start : tie.After-slice_known-3-1 → tie.Start
 start z = z.before.before.before.before.before.before.before.before.before
 
-size : (z : tie.After-slice-known3) → z.before.before.type_size.result ≡ size_of (sent (start z))
+size : (z : tie.After-slice_known-3-1) → z.size_of-size.result ≡ size_of (sent (start z))
 size z =
     let s = start z in
-    z.before.before.type_size.ensures ∙ size_is (sent s) s.args.lengths s.pre.0 s.pre.1 s.pre.2
+    z.size_of-size.ensures ∙ size_is (sent s) s.args.lengths s.pre.0 s.pre.1 s.pre.2
 
-size-of-requires : tie.Need-size-of-requires
+size-of-requires : tie.Need-size_of-size-requires
 size-of-requires c κs =
-    let s = c.before.before.before.before.before.before in
+    let s = c in
     let o = record_ok s.args.r s.requires.0 in
     (o.programs, o.count, s.requires.3, s.requires.4)
 
-returns : tie.Need-returns
+returns : tie.Need-returns-then-size-gt8191
 returns c =
-    let z = c.before.before in
-    let s = start z in (
+    let z = c in
+    let s = start z.before.before in (
       ap Refused c.unread.ensures
-          ∙ written_18 (sent s) _ s.pre.0 s.pre.1 (omega (arith, size z, c.before.if1.true)),
+          ∙ written_18 (sent s) _ s.pre.0 s.pre.1 (omega (arith, size z.before.before, c.if-size-gt8191.true)),
       refl,
     )
 
-returns-2 : tie.Need-returns-2
+returns-2 : tie.Need-returns-then-out-size
 returns-2 c =
-    let z = c.before.before.before in
-    let s = start z in (
-      ap Refused c.unread2.ensures
-          ∙ written_19 (sent s) _ s.pre.0 s.pre.1 (omega (arith, size z, c.before.before.if1.false))
-          (omega (arith, size z, c.before.if2.true)),
+    let z = c in
+    let s = start z.before.before.before in (
+      ap Refused c.unread-then-out-size.ensures
+          ∙ written_19 (sent s) _ s.pre.0 s.pre.1 (omega (arith, size z.before.before.before, c.if-size-gt8191.false))
+          (omega (arith, size z.before.before.before, c.if-out-size.true)),
       refl,
     )
 
-put-element-requires : tie.Need-put-element-requires
+put-element-requires : tie.Need-put_element-requires
 put-element-requires c κs =
-    let z = c.before.before.before in
-    let s = start z in
-    let m : size_of (sent s) ≤ 8191 = omega (arith, size z, c.before.before.if1.false) in
+    let z = c in
+    let s = start z.before.before.before in
+    let m : size_of (sent s) ≤ 8191 = omega (arith, size z.before.before.before, c.if-size-gt8191.false) in
     (s.pre.0, s.pre.1, m)
 
-returns-3 : tie.Need-returns-3
+returns-3 : tie.Need-returns
 returns-3 c =
-    let z = c.before.before.before.before.before.before in
-    let s = start z in
+    let z = c in
+    let s = start z.before.before.before.before.before.before in
     let w = sent s in
-    let n = size z in
-    let few : size_of w ≤ 8191 = omega (arith, n, c.before.before.before.before.before.if1.false) in
+    let n = size z.before.before.before.before.before.before in
+    let few : size_of w ≤ 8191 = omega (arith, n, c.if-size-gt8191.false) in
     let room : size_of w ≤ length s.args.out.now =
-    omega (arith, n, c.before.before.before.before.if2.false) in (
+    omega (arith, n, c.if-out-size.false) in (
       ap Done n ∙ written_done w _ s.pre.0 s.pre.1 few room,
       rw n (put_front (size_of w) (whole_bytes w (fits_are w s.pre.1)) room
-          (λ i. omega (arith, z.before.before.before.before.slice-known2.given i))
-          (λ i. omega (arith, c.slice-known4.given i)) c.before.before.put_element.ensures),
+          (λ i. omega (arith, z.slice_known-2-1.given i))
+          (λ i. omega (arith, c.slice_known-4-1.given i)) c.put_element.ensures),
     )
 
-pub write-fitting-spec : {M : Type 1} → statement M
-write-fitting-spec =
+pub write_fitting_spec : {M : Type 1} → statement M
+write_fitting_spec =
     tie.close
     (tie.spec size-of-requires (λ c κs. search rules) (λ c. search rules) returns (λ c κs. search rules)
     (λ c. search rules) returns-2 put-element-requires (λ c. search rules) (λ c. search rules) returns-3)

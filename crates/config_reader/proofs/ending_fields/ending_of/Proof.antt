@@ -9,39 +9,39 @@ use Rattle.config.specs.Mux.{mux_ending}
 use Rattle.config_reader.proofs.ending_fields.ending_of.Statement.{statement}
 use Rattle.config_reader.proofs.ending_fields.ending_of.Tie as tie
 
-pub ending-of-spec : {M : Type 1} → statement M
+pub ending_of_spec : {M : Type 1} → statement M
 unfolding mux_ending
-ending-of-spec =
+ending_of_spec =
     tie.close
     (tie.spec (λ c κs. search rules) (λ c. search rules) (λ c. search rules) (λ c κs. search rules)
-    (λ c. hands (other c.before.before.before) c.before.enum_told.given.1 c.why.ensures)
-    (λ c κs. (gave (other c.before.before.before) c.before.a.given.1).stands)
+    (λ c. hands (other c.before.before) c.in_default.is c.why.ensures)
+    (λ c κs. (gave (other c.before) c.in-Value.is).stands)
     (λ c. search rules) (λ c. search rules) (λ c κs. search rules)
-    (λ c. hands (bits c.before.before.before) c.before.enum-told2.given.1 c.why2.ensures)
-    (λ c κs. omega (arith, (gave (bits c.before.before.before) c.before.b.given.1).stands))
+    (λ c. hands (bits c.before.before) c.in_default-b.is c.why-in_default-b.ensures)
+    (λ c κs. omega (arith, (gave (bits c.before) c.in-Value-b.is).stands))
     (λ c. search rules) (λ c. search rules) (λ c κs. search rules)
-    (λ c. hands (checked c.before.before.before) c.before.enum-told3.given.1 c.why3.ensures)
-    (λ c κs. (gave (checked c.before.before.before) c.before.d.given.1).stands)
+    (λ c. hands (checked c.before.before) c.in_default-d.is c.why-in_default-d.ensures)
+    (λ c κs. (gave (checked c.before) c.in-Value-d.is).stands)
     (λ c. search rules) (λ c. search rules) (λ c κs. search rules)
-    (λ c. hands (crc c.before.before.before) c.before.enum-told4.given.1 c.why4.ensures)
-    (λ c. ends (gave (crc c.before.before.before) c.before.e.given.1) gives))
+    (λ c. hands (crc c.before.before) c.in_default-e.is c.why-in_default-e.ensures)
+    (λ c. ends (gave (crc c.before) c.in-Value-e.is) gives))
   where
-    other : tie.After-fetch → Asked told_fetched Ending
+    other : tie.After-fetch-a → Asked told_fetched Ending
     other c =
-        let s = c.before.before in
-        asks (start _ (mux_ending s.args.version) s.requires) next c.fetch.result c.fetch.ensures
+        let s = c in
+        asks (start _ (mux_ending s.args.version) s.requires) next c.fetch-a.result c.fetch-a.ensures
 
-    bits : tie.After-other-if → Asked told_fetched Ending
+    bits : tie.After-other_if-b → Asked told_fetched Ending
     bits c =
-        let a = c.before.before in
-        asks (gave (other a.before.before) a.a.given.1) next c.other_if.result c.other_if.ensures
+        let a = c in
+        asks (gave (other a.before.before) a.in-Value.is) next c.other_if-b.result c.other_if-b.ensures
 
-    checked : tie.After-fetch2 → Asked told_fetched Ending
+    checked : tie.After-fetch-d → Asked told_fetched Ending
     checked c =
-        let b = c.before.before in
-        asks (gave (bits b.before.before) b.b.given.1) next c.fetch2.result c.fetch2.ensures
+        let b = c in
+        asks (gave (bits b.before.before) b.in-Value-b.is) next c.fetch-d.result c.fetch-d.ensures
 
-    crc : tie.After-crc-if → Asked told_fetched Ending
+    crc : tie.After-crc_if-e → Asked told_fetched Ending
     crc c =
-        let d = c.before.before in
-        asks (gave (checked d.before.before) d.d.given.1) next c.crc_if.result c.crc_if.ensures
+        let d = c in
+        asks (gave (checked d.before.before) d.in-Value-d.is) next c.crc_if-e.result c.crc_if-e.ensures

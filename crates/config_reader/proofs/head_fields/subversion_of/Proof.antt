@@ -9,26 +9,26 @@ use Rattle.config.specs.Mux.{mux_version_a}
 use Rattle.config_reader.proofs.head_fields.subversion_of.Statement.{statement}
 use Rattle.config_reader.proofs.head_fields.subversion_of.Tie as tie
 
-pub subversion-of-spec : {M : Type 1} → statement M
+pub subversion_of_spec : {M : Type 1} → statement M
 unfolding mux_version_a
-subversion-of-spec =
+subversion_of_spec =
     tie.close
     (tie.spec (λ c κs. search rules) (λ c. search rules) (λ c. search rules)
-    (λ c. returned (flag c.before.before) c.enum_told.given.1)
+    (λ c. returned (flag c.before) c.in_default.is)
     returns-2
     (λ c κs. search rules)
     returns-3)
   where
-    flag : tie.After-fetch → Asked told_fetched ℕ
-    flag c = asks (start _ mux_version_a c.before.before.requires) next c.fetch.result c.fetch.ensures
+    flag : tie.After-fetch-one → Asked told_fetched ℕ
+    flag c = asks (start _ mux_version_a c.requires) next c.fetch-one.result c.fetch-one.ensures
 
-    returns-2 : tie.Need-returns-2
+    returns-2 : tie.Need-returns-then-a-eq0
     returns-2 c =
-        let f = c.before.before in
-        ends (needed (gave (flag f.before.before) f.one.given.1) must (eq-eqb _ 0 c.if1.true)) gives
+        let f = c in
+        ends (needed (gave (flag f.before.before) f.in-Value.is) must (eq-eqb _ 0 c.if-a-eq0.true)) gives
 
-    returns-3 : tie.Need-returns-3
+    returns-3 : tie.Need-returns
     returns-3 c =
-        let f = c.before.before.before in
-        denied (flag f.before.before) f.one.given.1 a_field must (ne_eqb _ 0 c.before.if1.false)
+        let f = c in
+        denied (flag f.before.before.before) f.in-Value.is a_field must (ne_eqb _ 0 c.if-a-eq0.false)
         c.refused_at.ensures

@@ -10,48 +10,48 @@ use borrow.Author.Rules.{rules}
 use Rattle.summary_lines.proofs.rows.lay_layers.Statement.{statement}
 use Rattle.summary_lines.proofs.rows.lay_layers.Tie as tie
 
-abbrev invariant-loop : tie.invariant-loop
-invariant-loop out₀ at element r table p to₀ l₀ out to l =
+abbrev invariant-loop-l : tie.invariant-loop-l
+invariant-loop-l out₀ at element r table p to₀ l₀ out to l =
     (l ≤ 8) × (to ≤ at + 112 * l)
     × ToStore out₀ at (layers_text element r table p 0 8) out to (layers_text element r table p l (8 - l))
 
-abbrev decreases-loop : tie.decreases-loop
-decreases-loop out₀ at element r table p to₀ l₀ out to l = 8 - l
+abbrev decreases-loop-l : tie.decreases-loop-l
+decreases-loop-l out₀ at element r table p to₀ l₀ out to l = 8 - l
 
-loop-holds : tie.Need-loop-init invariant-loop decreases-loop
+loop-holds : tie.Need-loop-l-init invariant-loop-l decreases-loop-l
 loop-holds c = (omega arith, omega arith, store_all)
 
-loop-again : tie.Need-loop-preserved invariant-loop decreases-loop
+loop-again : tie.Need-loop-l-preserved invariant-loop-l decreases-loop-l
 loop-again c =
-    let f = c.before.before in
-    let q = f.before.before in
-    let s = q.before in
-    let l = s.before.before in
-    let a = l.before.before.args in (
+    let f = c in
+    let q = f in
+    let s = q in
+    let l = s in
+    let a = l.args in (
       omega arith,
-      omega (arith, f.lay_found.ensures.0, l.loop.invariant),
+      omega (arith, f.lay_found-to.ensures.0, l.loop-l.invariant),
       store_on
-          (rw (layers_turn a.element a.r a.table a.p l.loop.l (omega arith) s.cell_at.ensures
-          q.row_of.ensures) at l.loop.invariant.2) f.lay_found.ensures.1,
+          (rw (layers_turn a.element a.r a.table a.p l.loop-l.l (omega arith) s.cell_at-stream.ensures
+          q.row_of-x.ensures) at l.loop-l.invariant.2) f.lay_found-to.ensures.1,
     )
 
-done : (c : tie.After-loop invariant-loop decreases-loop) → let a = c.before.before.before.args in
-    Stored a.out.now a.at (layers_text a.element a.r a.table a.p 0 8) c.before.loop.out
-    c.before.loop.to
+done : (c : tie.After-loop-l invariant-loop-l decreases-loop-l) → let a = c.args in
+    Stored a.out.now a.at (layers_text a.element a.r a.table a.p 0 8) c.loop-l.out
+    c.loop-l.to
 unfolding layers_text
 done c =
-    let e : 8 - c.before.loop.l ≡ 0 = omega arith in
-    (rw e at c.before.loop.invariant.2).then stored_none
+    let e : 8 - c.loop-l.l ≡ 0 = omega arith in
+    (rw e at c.loop-l.invariant.2).then stored_none
 
-same_length : tie.Need-same-length invariant-loop decreases-loop
+same_length : tie.Need-shape_of-out invariant-loop-l decreases-loop-l
 same_length c = stored_length (done c)
 
-returns : tie.Need-returns invariant-loop decreases-loop
+returns : tie.Need-returns invariant-loop-l decreases-loop-l
 returns c = (omega arith, done c)
 
-pub lay-layers-spec : {M : Type 1} → statement M
-lay-layers-spec =
+pub lay_layers_spec : {M : Type 1} → statement M
+lay_layers_spec =
     tie.close
-    (tie.spec invariant-loop decreases-loop loop-holds (λ c. search rules) (λ c κs. search rules) (λ c κs. search rules)
+    (tie.spec invariant-loop-l decreases-loop-l loop-holds (λ c. search rules) (λ c κs. search rules) (λ c κs. search rules)
     (λ c. search rules) (λ c κs. search rules) (λ c. search rules) (λ c. search rules) loop-again same_length
     returns)
