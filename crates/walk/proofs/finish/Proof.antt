@@ -42,7 +42,7 @@ cast-push-front c = omega arith
 push-front-requires : tie.Need-push_front-requires
 push-front-requires c κs =
     let p = c in
-    (omega (arith, p.rest_of-dry.auto.1.1.1.1.0), omega arith)
+    (omega (arith, p.rest_of-dry.auto.map), omega arith)
 
 rest-of-requires-2 : tie.Need-rest_of-requires
 rest-of-requires-2 c κs =
@@ -53,7 +53,7 @@ rest-of-requires-2 c κs =
       r.0,
       (
         r.3,
-        omega (arith, r.1, p.rest_of-dry.auto.1.1.1.1.0, t.push_front.auto.0),
+        omega (arith, r.1, p.rest_of-dry.auto.map, t.push_front.auto.map),
         omega
             (arith, front p.before.before.before.before.before.before.before.before.before.before.before.before, r.0),
       ),

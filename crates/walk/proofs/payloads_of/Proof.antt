@@ -61,7 +61,7 @@ loop-again c =
       omega arith,
       (let e = rw g.in-Items.is at (p.pass_item-got.ensures closed).1 in omega arith),
       going_on _ _ (payloads_more a.widths a.n l.loop-i.i (omega arith) (omega (arith, wide l.before.before.before.before.before.before)))
-          (p.pass_item-got.ensures closed).0 g.in-Items.is p.pass_item-got.auto.1.1.1.1.1.1.0
+          (p.pass_item-got.ensures closed).0 g.in-Items.is p.pass_item-got.auto.map
           l.loop-i.invariant.2,
     )
 

@@ -22,14 +22,14 @@ unfolding rest
 framed g =
     let p = g in
     step (outset p.requires.1.0) _ _ _ refl p.subframes_of-a.ensures
-    g.in-Items.is p.subframes_of-a.auto.1.1.1.1.1.1.0
+    g.in-Items.is p.subframes_of-a.auto.map
 
 abbrev othered : (h : tie.In-Items-b) → From (start-a h.before.before.before.before.before)
 unfolding rest
 othered h =
     let q = h in
     step (framed q.before.before.before.before.before) _ _ _ refl q.other_of-b.ensures h.in-Items-b.is
-    q.other_of-b.auto.1.1.1.1.1.0
+    q.other_of-b.auto.map
 
 returns : tie.Need-returns-in_default
 unfolding rest

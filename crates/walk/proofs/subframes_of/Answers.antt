@@ -31,7 +31,7 @@ loop-left-preserved c =
       omega arith,
       (let e = rw g.in-Items.is at p.subframe_of-got.ensures.1 in omega arith),
       going_on _ _ (subframes_more _ l.loop-left.left (omega arith))
-          p.subframe_of-got.ensures.0 g.in-Items.is p.subframe_of-got.auto.1.1.1.1.1.0 l.loop-left.invariant.2,
+          p.subframe_of-got.ensures.0 g.in-Items.is p.subframe_of-got.auto.map l.loop-left.invariant.2,
     )
 
 pub returns : goal.returns
