@@ -1,5 +1,6 @@
 // One AudioMuxElement, read whole into a map.
 #![tactic(auto)]
+
 ghost use Rattle.std.specs.Prelude.{◌≡◌, true, ◌&&◌, ◌++◌, map, ◌-◌, ◌≤◌, length, take, replicate};
 ghost use Rattle.kernel.specs.Reading.{Stands};
 ghost use Rattle.kernel.specs.Element.{read};

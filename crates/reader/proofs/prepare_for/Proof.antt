@@ -8,20 +8,20 @@ use Rattle.reader.proofs.prepare_for.Statement.{statement}
 use Rattle.reader.proofs.prepare_for.Tie as tie
 
 -- what is needed, by the test
-needed : (d : tie.After-sends) {t : Bool} → d.sends.result ≡ t → let a = d.before.before.args in
+needed : (d : tie.After-sends) {t : Bool} → d.sends.result ≡ t → let a = d.args in
     cond t nothing_held a.held ≡ needed_of a.el.now a.held
-needed d e = ap (λ (b : Bool). cond b nothing_held d.before.before.args.held) (sym e ∙ d.sends.ensures)
+needed d e = ap (λ (b : Bool). cond b nothing_held d.args.held) (sym e ∙ d.sends.ensures)
 
-returns : tie.Need-returns
+returns : tie.Need-returns-then-sends
 returns c =
-    let t = c.before.before in
-    c.prepare.ensures ∙ ap prepared_of (c.before.nothing_held.ensures ∙ needed t.before t.if1.true)
+    let t = c in
+    c.prepare.ensures ∙ ap prepared_of (c.nothing_held-none.ensures ∙ needed t.before.before.before t.if-sends.true)
 
-returns-2 : tie.Need-returns-2
-returns-2 c = c.prepare2.ensures ∙ ap prepared_of (needed c.before.before c.before.if1.false)
+returns-2 : tie.Need-returns
+returns-2 c = c.prepare-2.ensures ∙ ap prepared_of (needed c.before.before c.if-sends.false)
 
-pub prepare-for-spec : {M : Type 1} → statement M
-prepare-for-spec = tie.close (tie.spec
+pub prepare_for_spec : {M : Type 1} → statement M
+prepare_for_spec = tie.close (tie.spec
     (λ c κs. search rules)
     (λ c κs. search rules)
     (λ c κs. search rules)

@@ -21,7 +21,7 @@ count_is : (i : tie.After-streams_in-count)
     → i.streams_in-count.result ≡ length (streams_of i.args.r)
 count_is i =
     let s = i in
-    streams_count s.args.r s.requires.0 (simp length-map at s.well-formed.1.0.1.1.1.1.1.1.1.1.1.0.1.0.1)
+    streams_count s.args.r s.requires.0 (simp length-map at s.well_formed.1.0.1.1.1.1.1.1.1.1.1.0.1.0.1)
     i.streams_in-count.ensures
 
 put-front-requires : tie.Need-put_front-a-requires

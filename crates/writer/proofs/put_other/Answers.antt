@@ -13,7 +13,7 @@ put_some-requires c =
 
 pub returns-then-present-eq1 : goal.returns-then-present-eq1
 returns-then-present-eq1 c =
-    let p = c.put_some_lem.ensures in
+    let p = c.put_some.ensures in
     let i = c in
     let s = i in
     let e = eq-eqb s.args.present 1 i.if-present-eq1.true in (

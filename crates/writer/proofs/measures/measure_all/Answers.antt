@@ -48,7 +48,7 @@ loop-left-preserved c =
     let y = all_bytes_turn a.streams a.count a.ns.now m (l.left - 1) l.from in
     let z = all_sum_turn a.streams a.count a.ns.now m (l.left - 1) l.from in
     let x : r.measure_row-row.result
-    ≡ measure_of (take a.count a.streams) (drop l.from a.ns.now) = r.measure_row-row.ensures.0 in
+    ≡ measure_of (take a.count a.streams) (drop l.from a.ns.now) = r.measure_row-row.ensures.is in
     let u : r.measure_row-row.result.lengths
     ≡ row_bytes (take a.count a.streams) (drop l.from a.ns.now) = ap (λ (w : Measure). w.lengths) x in
     let v : r.measure_row-row.result.payload
@@ -59,8 +59,8 @@ loop-left-preserved c =
     record {
       ahead = omega (arith, l.invariant.ahead);
       behind = omega (arith, e, l.invariant.behind);
-      few-lengths = omega (arith, l.invariant.ahead, l.invariant.few-lengths, r.measure_row-row.ensures.1.0);
-      few-payload = omega (arith, l.invariant.ahead, l.invariant.few-payload, r.measure_row-row.ensures.1.1);
+      few-lengths = omega (arith, l.invariant.ahead, l.invariant.few-lengths, r.measure_row-row.ensures.small.0);
+      few-payload = omega (arith, l.invariant.ahead, l.invariant.few-payload, r.measure_row-row.ensures.small.1);
       fit =
           rw (ap (λ (w : Measure). w.fits) x) (sym (and_assoc l.fits _ _) ∙ (rw (q, f) at l.invariant.fit));
       sized = omega (arith, y, u, i);

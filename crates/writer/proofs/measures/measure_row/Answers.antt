@@ -56,10 +56,10 @@ loop-i-preserved c =
     let z = array_sum_turn a.streams a.count a.ns.now a.from l.i h m in
     record {
       within = omega arith;
-      few-lengths = omega (arith, l.invariant.few-lengths, c.bytes_of_length-lengths.ensures.1);
+      few-lengths = omega (arith, l.invariant.few-lengths, c.bytes_of_length-lengths.ensures.small);
       few-payload = omega (arith, l.invariant.few-payload, b);
       fit = rw c.slot_fits-fits.ensures (sym (and_assoc l.fits _ _) ∙ (rw f at l.invariant.fit));
-      sized = omega (arith, y, c.bytes_of_length-lengths.ensures.0, l.invariant.sized);
+      sized = omega (arith, y, c.bytes_of_length-lengths.ensures.is, l.invariant.sized);
       summed = omega (arith, z, l.invariant.summed);
     }
 
