@@ -21,7 +21,7 @@ count_is : (i : tie.After-streams_in-count)
     → i.streams_in-count.result ≡ length (streams_of i.args.r)
 count_is i =
     let s = i in
-    streams_count s.args.r s.requires.0 (simp length-map at s.well_formed.1.0.1.1.1.1.1.1.1.1.1.0.1.0.1)
+    streams_count s.args.r s.requires.0 (search rules)
     i.streams_in-count.ensures
 
 put-front-requires : tie.Need-put_front-a-requires
@@ -56,9 +56,9 @@ put-other-requires c κs =
     let b = c in
     let s =
     b.before.before.before.before.before.before.before.before.before.before.before.before.before.before.before.before.before in
-    let f = fits_are (sent s) s.pre.1 in (
+    let f = fits_are (sent s) s.requires.1 in (
       omega (arith, b.put_subframes-b.ensures.0, b.put_front-a.ensures.0),
-      other_few (sent s) f s.pre.2,
+      other_few (sent s) f s.requires.2,
       enough_is (sent s) f,
     )
 

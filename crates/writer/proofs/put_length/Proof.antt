@@ -32,7 +32,7 @@ loop-again c =
 
 done : (c : tie.After-slice_known-2-1 invariant-loop-left decreases-loop-left)
     → let a = c.args in
-    Put a.out.now a.at (length_bits a.n) c.put.new.0 c.put.result
+    Put a.out.now a.at (length_bits a.n) c.put.new.out c.put.result
 done c =
     let l = c.loop-left in
     (rw (length_last l.left (omega arith)) at l.invariant.2).then c.put.ensures.1

@@ -114,9 +114,9 @@ put-lengths-requires c κs =
 sub-put-bytes : tie.Need-slice_bounds-put_bytes-count invariant-loop-left decreases-loop-left
 sub-put-bytes c = omega arith
 
-part-put-bytes-end : tie.Need-slice-bounds-put-bytes-end invariant-loop-left decreases-loop-left
+part-put-bytes-end : tie.Need-slice_bounds-put_bytes-end invariant-loop-left decreases-loop-left
 part-put-bytes-end c =
-    let r = c in omega (arith, pay r, sums r.before)
+    let r = c in omega (arith, pay r.before.before.before.before.before.before, sums r.before.before.before.before.before.before.before)
 
 put-bytes-requires : tie.Need-put_bytes-to-requires invariant-loop-left decreases-loop-left
 put-bytes-requires c κs =

@@ -23,7 +23,7 @@ start z = z.before.before.before.before.before.before.before.before.before
 size : (z : tie.After-slice_known-3-1) → z.size_of-size.result ≡ size_of (sent (start z))
 size z =
     let s = start z in
-    z.size_of-size.ensures ∙ size_is (sent s) s.args.lengths s.pre.0 s.pre.1 s.pre.2
+    z.size_of-size.ensures ∙ size_is (sent s) s.args.lengths s.requires.0 s.requires.1 s.requires.2
 
 size-of-requires : tie.Need-size_of-size-requires
 size-of-requires c κs =
@@ -36,7 +36,7 @@ returns c =
     let z = c in
     let s = start z.before.before in (
       ap Refused c.unread.ensures
-          ∙ written_18 (sent s) _ s.pre.0 s.pre.1 (omega (arith, size z.before.before, c.if-size-gt8191.true)),
+          ∙ written_18 (sent s) _ s.requires.0 s.requires.1 (omega (arith, size z.before.before, c.if-size-gt8191.true)),
       refl,
     )
 
@@ -45,7 +45,7 @@ returns-2 c =
     let z = c in
     let s = start z.before.before.before in (
       ap Refused c.unread-then-out-size.ensures
-          ∙ written_19 (sent s) _ s.pre.0 s.pre.1 (omega (arith, size z.before.before.before, c.if-size-gt8191.false))
+          ∙ written_19 (sent s) _ s.requires.0 s.requires.1 (omega (arith, size z.before.before.before, c.if-size-gt8191.false))
           (omega (arith, size z.before.before.before, c.if-out-size.true)),
       refl,
     )
@@ -55,7 +55,7 @@ put-element-requires c κs =
     let z = c in
     let s = start z.before.before.before in
     let m : size_of (sent s) ≤ 8191 = omega (arith, size z.before.before.before, c.if-size-gt8191.false) in
-    (s.pre.0, s.pre.1, m)
+    (s.requires.0, s.requires.1, m)
 
 returns-3 : tie.Need-returns
 returns-3 c =
@@ -66,8 +66,8 @@ returns-3 c =
     let few : size_of w ≤ 8191 = omega (arith, n, c.if-size-gt8191.false) in
     let room : size_of w ≤ length s.args.out.now =
     omega (arith, n, c.if-out-size.false) in (
-      ap Done n ∙ written_done w _ s.pre.0 s.pre.1 few room,
-      rw n (put_front (size_of w) (whole_bytes w (fits_are w s.pre.1)) room
+      ap Done n ∙ written_done w _ s.requires.0 s.requires.1 few room,
+      rw n (put_front (size_of w) (whole_bytes w (fits_are w s.requires.1)) room
           (λ i. omega (arith, z.slice_known-2-1.given i))
           (λ i. omega (arith, c.slice_known-4-1.given i)) c.put_element.ensures),
     )

@@ -24,7 +24,7 @@ count_is : (i : tie.After-streams_in-count)
     → i.streams_in-count.result ≡ length (streams_of i.args.r)
 count_is i =
     let s = i in
-    streams_count s.args.r s.requires (simp length-map at s.well_formed.0.1.1.1.1.1.1.1.1.1.0.1.0.1)
+    streams_count s.args.r s.requires (search rules)
     i.streams_in-count.ensures
 
 by-record : (m : tie.After-measure_all-m)

@@ -74,8 +74,9 @@ returns c =
     let a = s.args in
     let e : l.left ≡ 0 = omega arith in
     let k : length a.streams ≡ 16 = search rules in
-    let i = rw e at l.invariant in (
-      all_measured a.streams a.count a.n a.ns.now l.from (omega (arith, k, s.requires.0)) i.fit
-          i.sized i.summed,
-      (omega (arith, i.few-lengths, s.requires.1), omega (arith, i.few-payload, s.requires.1)),
-    )
+    let i = rw e at l.invariant in
+    record {
+      is =
+          all_measured a.streams a.count a.n a.ns.now l.from (omega (arith, k, s.requires.0)) i.fit i.sized i.summed;
+      small = (omega (arith, i.few-lengths, s.requires.1), omega (arith, i.few-payload, s.requires.1));
+    }

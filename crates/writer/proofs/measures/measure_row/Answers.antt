@@ -70,8 +70,8 @@ returns c =
     let a = s.args in
     let e : l.i ≡ a.count = omega arith in
     let k : length a.streams ≡ 16 = search rules in
-    let i = rw e at l.invariant in (
-      row_measured a.streams a.count a.ns.now a.from (omega (arith, k, s.requires)) i.fit i.sized
-          i.summed,
-      (omega (arith, i.few-lengths, s.requires), omega (arith, i.few-payload, s.requires)),
-    )
+    let i = rw e at l.invariant in
+    record {
+      is = row_measured a.streams a.count a.ns.now a.from (omega (arith, k, s.requires)) i.fit i.sized i.summed;
+      small = (omega (arith, i.few-lengths, s.requires), omega (arith, i.few-payload, s.requires));
+    }
