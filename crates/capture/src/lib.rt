@@ -1,5 +1,6 @@
 // The frames of a capture one after the other, each read with what was held by then.
 #![tactic(auto)]
+
 ghost use Rattle.std.specs.Prelude.{◌≡◌};
 ghost use Rattle.capture.specs.Blocks.{block_room};
 ghost use Rattle.capture.specs.Frames.{start, mark_of, OfPoint, holding_of, held_from, holding_behind};

@@ -1,6 +1,7 @@
 // The listing of a capture, in blocks: a record of 24 bytes for each item of an accepted element, and one for a refused
 // element.
 #![tactic(auto)]
+
 ghost use Rattle.std.specs.Prelude.{◌≡◌, ◌+◌, ◌*◌, ◌≤◌, length};
 ghost use Rattle.kernel.specs.Lists.{Stored};
 ghost use Rattle.capture.specs.Frames.{OfPoint};

@@ -1,6 +1,7 @@
 // The library for callers in C and Rust: numbers, slices and lent arrays. Where something is refused the answer is the
 // refusal's number, else 0.
 #![tactic(auto)]
+
 ghost use Rattle.std.specs.Prelude.{◌≡◌};
 ghost use Rattle.records.specs.Table.{table_of};
 ghost use Rattle.record_words.specs.Words.{record_in};

@@ -1,6 +1,7 @@
 // The summary of a capture, in blocks: a line for each stream of a configuration that becomes held, and one for each
 // refused element.
 #![tactic(auto)]
+
 ghost use Rattle.std.specs.Prelude.{◌≡◌, cond, not, ◌&&◌, [], ◌+◌, ◌≤◌, eqb, length};
 ghost use Rattle.kernel.specs.Lists.{Stored};
 ghost use Rattle.records.specs.Same.{same_record};

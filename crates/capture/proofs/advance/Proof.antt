@@ -13,47 +13,47 @@ use Rattle.capture.proofs.advance.Statement.{statement}
 use Rattle.capture.proofs.advance.Tie as tie
 
 -- where the frame that was found lies
-inside : (d : tie.After-h) → let a = d.before.before.before.before.before.args in
-    (d.h.given.0.0 + 3 + d.h.given.0.1.0 ≤ length a.capture.now) × (length a.capture.now ≤ 65536)
+inside : (d : tie.In-Found) → let a = d.args in
+    (d.in-Found.p + 3 + d.in-Found.n ≤ length a.capture.now) × (length a.capture.now ≤ 65536)
 inside d =
-    let a = d.before.before.before.before.before.args in
-    let i = element_is_inside a.capture.now a.from.at d.h.given.0.0 d.h.given.0.1.0
-    (sym d.before.before.hunt.ensures ∙ d.h.given.1) in
+    let a = d.args in
+    let i = element_is_inside a.capture.now a.from.at d.in-Found.p d.in-Found.n
+    (sym d.hunt-h.ensures ∙ d.in-Found.is) in
     (i.2, i.3)
 
-returns : tie.Need-returns
+returns : tie.Need-returns-in_default
 returns c point mark =
-    let h = c.before.before.before in
-    let a = h.before.before.before.args in
+    let h = c in
+    let a = h.args in
     let q = none_next a.capture.now (length a.map.now) point mark
-    (sym h.hunt.ensures ∙ c.before.enum_told.given.1) in
-    rw (q, c.no_record.ensures)
+    (sym h.hunt-h.ensures ∙ c.in_default.is) in
+    rw (q, c.no_record-blank.ensures)
     (ap (λ (m : Mark). record { found = End; sent = no_record; next = m }) mark, refl, refl)
 
-read-prepared-requires : tie.Need-read-prepared-requires
+read-prepared-requires : tie.Need-read_prepared-reply-requires
 read-prepared-requires c κs =
-    let d = c.before.before.before.before in
-    let o = d.before.before.before.before.before.requires in
+    let d = c in
+    let o = d.requires in
     record { held = o.point.held; is = held_at o.point o.is }
 
-add-end : tie.Need-overflow-add-end
+add-end : tie.Need-overflow_add-end
 add-end c = omega (arith, inside c.before.before.before.before.before.before.before.before.before)
 
-add-end-2 : tie.Need-overflow-add-end-2
+add-end-2 : tie.Need-overflow_add-end-2
 add-end-2 c = omega (arith, inside c.before.before.before.before.before.before.before.before.before)
 
-returns-2 : tie.Need-returns-2
+returns-2 : tie.Need-returns
 returns-2 c point mark =
-    let w = c.before.before.before.before.before in
-    let e = w.before.before.before in
-    let d = e.before.before in
-    let a = d.before.before.before.before.before.args in
+    let w = c in
+    let e = w in
+    let d = e in
+    let a = d.args in
     step_is a.capture.now (length a.map.now) point mark _ _
-    (sym d.before.before.hunt.ensures ∙ d.h.given.1) e.element_at.ensures a.map.now a.table.now
-    (w.read_prepared.ensures point.held (held_at point mark))
+    (sym d.hunt-h.ensures ∙ d.in-Found.is) e.element_at-el.ensures a.map.now a.table.now
+    (w.read_prepared-reply.ensures point.held (held_at point mark))
 
-pub advance-spec : {M : Type 1} → statement M
-advance-spec =
+pub advance_spec : {M : Type 1} → statement M
+advance_spec =
     tie.close
     (tie.spec (λ c κs. search rules) (λ c. search rules) (λ c. search rules) (λ c κs. search rules) returns
     (λ c κs. search rules) read-prepared-requires add-end add-end-2 (λ c. search rules) (λ c. search rules) returns-2)
