@@ -25,16 +25,16 @@ lent l = l.before.before.before.before.before
 
 -- the point come to, from one that the mark lent is of
 going : (l : tie.At-loop-used invariant-loop-used decreases-loop-used) → let s = lent l in let out₀ = s.args.out.now in
-    Reached s.args.capture.now (block_room (length out₀)) out₀ s.pre.1.point l.loop-used.out l.loop-used.used
+    Reached s.args.capture.now (block_room (length out₀)) out₀ s.requires.1.point l.loop-used.out l.loop-used.used
     l.loop-used.reached
 going l = let o = (lent l).requires.1 in l.loop-used.invariant.begun o.point o.is
 
--- the frame that a.before.before.before turn took, from any point that the loop may have come to
+-- the frame that a turn took, from any point that the loop may have come to
 taken : (f : tie.In-Frame invariant-loop-used decreases-loop-used) → let a = f in
     let l = a in
     (c : Point) → l.loop-used.reached ≡ mark_of c
-    → Took (lent l.before.before.before.before.before.before.before).args.capture.now 4368 c l.loop-used.map a.advance-step.new.1.1.0 l.loop-used.table
-    a.advance-step.new.1.1.1.0 f.in-Frame.v a.advance-step.result
+    → Took (lent l.before.before.before.before.before.before.before).args.capture.now 4368 c l.loop-used.map a.advance-step.new.map l.loop-used.table
+    a.advance-step.new.table f.in-Frame.v a.advance-step.result
 taken f c mark =
     let a = f in
     let l = a in
@@ -71,7 +71,7 @@ lay-verdict-requires c κs =
     let l = a in
     let r = l.loop-used.invariant.rooms in
     let g = going l.before.before.before.before.before.before.before.before in
-    (omega (arith, r.few), within (taken f.before g.point g.mark) r.map_room a.advance-step.auto.1.1.0)
+    (omega (arith, r.few), within (taken f.before g.point g.mark) r.map_room a.advance-step.auto.map)
 
 loop-less : tie.Need-loop-used-smaller invariant-loop-used decreases-loop-used
 loop-less c =

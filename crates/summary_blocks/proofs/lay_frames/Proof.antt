@@ -23,11 +23,11 @@ decreases-loop-used capture before map₀ table₀ out₀ room reached₀ said�
 abbrev lent : (l : tie.At-loop-used invariant-loop-used decreases-loop-used) → tie.Start invariant-loop-used decreases-loop-used
 lent l = l.before.before.before.before.before
 
--- the frame that a.before.before.before turn took
+-- the frame that a turn took
 taken : (f : tie.In-Frame invariant-loop-used decreases-loop-used) → let a = f in
     let l = a in
-    Took (lent l.before.before.before.before.before.before.before.before).args.capture.now 4368 (point_of l.loop-used.reached) l.loop-used.map a.advance-step.new.1.1.0
-    l.loop-used.table a.advance-step.new.1.1.1.0 f.in-Frame.v a.advance-step.result
+    Took (lent l.before.before.before.before.before.before.before.before).args.capture.now 4368 (point_of l.loop-used.reached) l.loop-used.map a.advance-step.new.map
+    l.loop-used.table a.advance-step.new.table f.in-Frame.v a.advance-step.result
 taken f =
     let a = f in
     let l = a in
