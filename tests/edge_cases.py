@@ -32,7 +32,7 @@ def accepted(e):
 
 
 def rows(name, mux):
-    said = {1: "(pos 1)", 0: "(pos 0)", -1: "minusOne"}
+    said = {1: "(pos 1)", 0: "(pos 0)", -1: "minus_one"}
     for program, layer, core, hz, output, sbr, ps, channels in figures(mux):
         row = f"{program} {layer} {core} {hz} {output} {said[sbr]} {said[ps]} {channels}"
         cases.append(f"row {name} {program} {layer} (figures {row})")

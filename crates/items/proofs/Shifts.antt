@@ -10,7 +10,6 @@ use lib.ListN.{length, get_or}
 use borrow.Author.Tests.{ltb-true, ltb-false, lt-ltb, le-ltb}
 use Rattle.kernel.specs.Element as kernel
 use Rattle.element.specs.Reply.{numbers}
-use Rattle.items.specs.declared.Item.{Item}
 use Rattle.items.specs.Items.{item_at, items_from, items_of}
 
 ltb_suc : (i n : ℕ) → ltb (suc i) (suc n) ≡ ltb i n

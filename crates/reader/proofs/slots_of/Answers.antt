@@ -1,6 +1,5 @@
 -- `reader::slots_of` meets its contract.
 use mathlib.Core.Path.{refl, ◌∙◌}
-use Prim.Native.Nat.{◌-◌}
 use native.Mathlib.Omega.{arith}
 use lib.ListN.{length-set}
 use Rattle.kernel.proofs.Lists.{zeros_more}

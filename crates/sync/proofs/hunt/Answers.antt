@@ -2,7 +2,6 @@
 use native.Mathlib.Omega.{arith}
 use Rattle.sync.proofs.Places.{hunt_over, hunt_is}
 use mathlib.Core.Path.{sym, ◌∙◌, ap}
-use Prim.Native.Nat.{◌-◌}
 use Rattle.sync.specs.declared.Hunted.TheVariants.{Found, Refused}
 use Rattle.sync.proofs.Places.{first_here, first_on, first_none}
 use Rattle.sync.proofs.hunt.Goals as goal

@@ -3,7 +3,7 @@ use borrow.Author.Rules.{rules}
 use mathlib.Core.Path.{◌≡◌, ◌∙◌}
 use Prim.Native.Nat.{◌+◌, ◌*◌}
 use native.Mathlib.Omega.{arith}
-use lib.ListN.{length, length-map}
+use lib.ListN.{length}
 use Rattle.records.proofs.Apart.{record_ok}
 use Rattle.element.specs.Mux.{streams_of}
 use Rattle.writer.specs.Written.{Sent, to_send, bits_in, sum_of}

@@ -3,7 +3,7 @@ use mathlib.Core.Bool.{◌&&◌}
 use Prim.Native.Nat.{◌+◌, ◌≤◌}
 use native.Mathlib.Omega.{arith}
 use lib.Dec.{eqb}
-use lib.ListN.{length, length-map}
+use lib.ListN.{length}
 use Rattle.records.proofs.Apart.{record_ok}
 use Rattle.element.specs.Mux.{streams_of}
 use Rattle.writer.specs.declared.Measure.{Measure}

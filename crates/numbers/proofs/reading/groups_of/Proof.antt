@@ -2,7 +2,7 @@
 use Prim.Native.Nat.{ℕ, ◌+◌, ◌*◌, ◌^◌, ◌<◌}
 use native.Mathlib.Omega.{arith}
 use borrow.Author.Rules.{rules}
-use borrow.Author.Tests.{eq-eqb, ne_eqb, not-true, not-false}
+use borrow.Author.Tests.{eq-eqb, ne_eqb}
 use Rattle.kernel.specs.Answer.{told_fetched}
 use Rattle.kernel.proofs.Chain.{gives, took}
 use Rattle.kernel.proofs.Along.{Along, Asked, resumed, remains, all_remains, asks, next, came, gave, returned, denied}

@@ -1,6 +1,5 @@
 -- `record_words::lay::lay` meets its contract.
 use mathlib.Core.Path.{refl}
-use Prim.Native.Nat.{◌-◌}
 use native.Mathlib.Omega.{arith}
 use Rattle.kernel.proofs.Lists.{laying_none, laying_more, laying_all}
 use Rattle.record_words.proofs.lay.lay.Goals as goal

@@ -2,7 +2,6 @@
 use Rattle.record_words.proofs.Words.{streams_turn, streams_done}
 use Rattle.kernel.proofs.Lists.{store_all, store_on, stored_none}
 use mathlib.Core.Path.{◌≡◌, refl, ◌∙◌}
-use Prim.Native.Nat.{◌-◌}
 use native.Mathlib.Omega.{arith}
 use lib.ListN.{length}
 use borrow.Author.Rules.{rules}

@@ -1,7 +1,6 @@
 -- `record_words::take::same_words` meets its contract.
 use Rattle.record_words.specs.Words.{record_size, same_words}
 use mathlib.Core.Path.{◌≡◌, refl}
-use Prim.Native.Nat.{◌-◌}
 use native.Mathlib.Numerals.{add-one}
 use native.Mathlib.Omega.{arith}
 use borrow.Author.Rules.{rules}

@@ -2,7 +2,6 @@
 use Rattle.record_words.proofs.Words.{stream_from_law}
 use Rattle.records.specs.Blank.{no_stream}
 use mathlib.Core.Path.{◌≡◌, refl, ◌∙◌}
-use Prim.Native.Nat.{◌-◌}
 use native.Mathlib.Omega.{arith}
 use lib.ListN.{replicate}
 use borrow.Author.Rules.{rules}

@@ -1,5 +1,4 @@
 -- `records::rules::layers_ok` meets its contract.
-use Prim.Native.Nat.{◌-◌}
 use native.Mathlib.Omega.{arith}
 use Rattle.kernel.proofs.Lists.{all_none, all_more, all_done}
 use Rattle.records.proofs.rules.layers_ok.Goals as goal

@@ -1,5 +1,4 @@
 -- `records::rules::streams_ok` meets its contract.
-use Prim.Native.Nat.{◌-◌}
 use native.Mathlib.Omega.{arith}
 use Rattle.kernel.proofs.Lists.{all_none, all_more, all_done}
 use Rattle.records.proofs.rules.streams_ok.Goals as goal

@@ -1,6 +1,5 @@
 -- `records::same::same_layers` meets its contract.
 use mathlib.Core.Path.{refl}
-use Prim.Native.Nat.{◌-◌}
 use native.Mathlib.Omega.{arith}
 use Rattle.kernel.proofs.Lists.{all_none, all_more, all_done}
 use Rattle.records.proofs.same.same_layers.Goals as goal

@@ -1,5 +1,4 @@
 -- `records::same::same_streams` meets its contract.
-use Prim.Native.Nat.{◌-◌}
 use native.Mathlib.Omega.{arith}
 use Rattle.kernel.proofs.Lists.{all_none, all_more, all_done}
 use Rattle.records.proofs.same.same_streams.Goals as goal

@@ -1,11 +1,9 @@
 -- `records::table::row_from` meets its contract.
 use mathlib.Core.Path.{◌≡◌, refl}
-use Prim.Native.Nat.{◌-◌}
 use native.Mathlib.Omega.{arith}
 use lib.ListN.{replicate}
 use borrow.Author.Rules.{rules}
 use Rattle.kernel.proofs.Lists.{tab_none, tab_more, tab_all}
-use Rattle.records.specs.Table.{cell_of}
 use Rattle.records.proofs.table.row_from.Goals as goal
 
 pub loop-l-init : goal.loop-l-init

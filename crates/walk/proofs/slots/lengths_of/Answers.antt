@@ -1,6 +1,6 @@
 -- `walk::slots::lengths_of` meets its contract.
 use mathlib.Core.Path.{refl, ap, sym, ◌≡◌, ◌∙◌}
-use Prim.Native.Nat.{ℕ, ◌-◌}
+use Prim.Native.Nat.{ℕ}
 use native.Mathlib.Omega.{arith}
 use lib.ListN.{take, length-set}
 use Rattle.kernel.specs.Answer.{value, told_fetched}
