@@ -7,6 +7,8 @@ use element::Verdict;
 use items::{Item, copy_item, item_at};
 use kernel::least;
 use records::Record;
+use std::io;
+use std::io::{Read, Write};
 use sync::{Framed, element_at};
 use writer::Written;
 
@@ -79,24 +81,26 @@ fn write_anew(
 }
 
 // Writes an element out, in a frame.
-fn send(w: Written, out: &[u8], frame: &mut [u8]) {
+fn send<W: Write>(to: &mut W, w: Written, out: &[u8], frame: &mut [u8]) -> io::Result<()> {
     let Written::Done(n) = w else {
-        return;
+        return Ok(());
     };
     if n <= out.len() {
         let f = sync::frame(&out[..n], frame);
         let Framed::Done(m) = f else {
-            return;
+            return Ok(());
         };
         if m <= frame.len() {
-            io::write_all(1, &frame[..m]);
+            to.write_all(&frame[..m])?;
         }
     }
+    Ok(())
 }
 
 // What was read of one element, taken out slot by slot and written anew; nothing of one that was refused. Payload and
 // other data stand in `bytes` one behind the other, and then the frame.
-fn take_out(
+fn take_out<W: Write>(
+    to: &mut W,
     el: &[u8],
     v: Verdict,
     r: Record,
@@ -104,29 +108,30 @@ fn take_out(
     lengths: &mut [u32],
     bytes: &mut [u8],
     out: &mut [u8],
-)
+) -> io::Result<()>
     requires { (length lengths.old ≡ 1092) × (length bytes.old ≡ 8200) × (length out.old ≡ 8192) }
 {
     let Verdict::Accepted(items, _, sent) = v else {
-        return;
+        return Ok(());
     };
     let k = least(items as usize, 1092);
     let n = slots_of(map, k, lengths);
     let p = copy_kind(el, map, k, 4, bytes, 0);
     let o = copy_kind(el, map, k, 5, bytes, p);
     let w = write_anew(r, sent, &lengths[..n], bytes, p, o, out);
-    send(w, out, bytes);
+    send(to, w, out, bytes)
 }
 
 // Each element of the capture in turn; the buffers are lent.
-fn all(
+fn all<W: Write>(
+    to: &mut W,
     capture: &[u8],
     map: &mut [u32],
     table: &mut [[u8; 8]; 16],
     lengths: &mut [u32],
     bytes: &mut [u8],
     out: &mut [u8],
-)
+) -> io::Result<()>
     requires { (length map.old ≡ 4368) × (length lengths.old ≡ 1092) × (length bytes.old ≡ 8200)
         × (length out.old ≡ 8192) }
 {
@@ -136,20 +141,20 @@ fn all(
         let step = advance(capture, mark, map, table);
         let found = step.found;
         let Found::Frame(p, n, v) = found else {
-            return;
+            return Ok(());
         };
         reached = holding_behind(reached, step);
         let held = reached.held;
         let el = element_at(capture, p, n);
-        take_out(el, v, held.config, map, lengths, bytes, out);
+        take_out(to, el, v, held.config, map, lengths, bytes, out)?;
     }
 }
 
-fn main() {
-    let mut buf = io::large_buffer();
-    let n = io::read_full(0, &mut buf);
-    let mut more = [0; 1];
-    let over = io::read_full(0, &mut more);
+fn main(rt: HostRuntime) -> io::Result<()> {
+    let mut capture = Vec::new(rt.alloc());
+    rt.stdin().take(65536).read_to_end(&mut capture)?;
+    let mut more = Vec::new(rt.alloc());
+    let over = rt.stdin().take(1).read_to_end(&mut more)?;
     let mut map = [0; 4368];
     let none = [255; 8];
     let mut table = [none; 16];
@@ -157,17 +162,18 @@ fn main() {
     let mut bytes = [0; 8200];
     let mut out = [0; 8192];
     all(
-        &buf[..n],
+        &mut rt.stdout(),
+        &capture,
         &mut map,
         &mut table,
         &mut lengths,
         &mut bytes,
         &mut out,
-    );
+    )?;
     if over == 1 {
-        io::write_all(
-            2,
+        rt.stderr().write_all(
             b"the capture is longer than 65536 bytes: only the first 65536 were rewritten\n",
-        );
+        )?;
     }
+    Ok(())
 }

@@ -1,57 +1,56 @@
 // What is printed.
 use kernel::Refusal;
 use row::Row;
+use std::io;
+use std::io::Write;
 
 // Prints these bytes.
-pub fn say(words: &[u8]) {
-    io::write_all(1, words);
+pub fn say<W: Write>(to: &mut W, words: &[u8]) -> io::Result<()> {
+    to.write_all(words)
 }
 
 // Behind a blank.
-pub fn say_number(n: usize) {
-    io::write_all(1, b" ");
-    io::print_decimal(1, n as u64);
+pub fn say_number<W: Write>(to: &mut W, n: usize) -> io::Result<()> {
+    write!(to, " {n}")
 }
 
 // The same of a word.
-pub fn say_word(n: u32) {
-    say_number(n as usize);
+pub fn say_word<W: Write>(to: &mut W, n: u32) -> io::Result<()> {
+    say_number(to, n as usize)
 }
 
 // Minus one, 0 or 1.
-fn say_flag(flag: i32) {
+fn say_flag<W: Write>(to: &mut W, flag: i32) -> io::Result<()> {
     if flag < 0 {
-        say(b" -1");
-        return;
+        return say(to, b" -1");
     }
     if flag == 0 {
-        say(b" 0");
-        return;
+        return say(to, b" 0");
     }
-    say(b" 1");
+    say(to, b" 1")
 }
 
 // A refusal, on a line.
-pub fn say_refused(x: Refusal) {
-    say(b"refused,");
-    say_number(x.number);
-    say(b" at bit");
-    say_number(x.place);
-    say(b", fields");
-    say_number(x.fields);
-    say(b"\n");
+pub fn say_refused<W: Write>(to: &mut W, x: Refusal) -> io::Result<()> {
+    say(to, b"refused,")?;
+    say_number(to, x.number)?;
+    say(to, b" at bit")?;
+    say_number(to, x.place)?;
+    say(to, b", fields")?;
+    say_number(to, x.fields)?;
+    say(to, b"\n")
 }
 
 // A row, on a line.
-pub fn say_row(r: Row) {
-    say(b"row");
-    say_word(r.program);
-    say_word(r.layer);
-    say_word(r.core);
-    say_word(r.rate);
-    say_word(r.output);
-    say_flag(r.sbr);
-    say_flag(r.ps);
-    say_word(r.channels);
-    say(b"\n");
+pub fn say_row<W: Write>(to: &mut W, r: Row) -> io::Result<()> {
+    say(to, b"row")?;
+    say_word(to, r.program)?;
+    say_word(to, r.layer)?;
+    say_word(to, r.core)?;
+    say_word(to, r.rate)?;
+    say_word(to, r.output)?;
+    say_flag(to, r.sbr)?;
+    say_flag(to, r.ps)?;
+    say_word(to, r.channels)?;
+    say(to, b"\n")
 }

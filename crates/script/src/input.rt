@@ -1,5 +1,8 @@
 // Numbers and bytes of a script, from standard input.
-ghost use Rattle.std.specs.Prelude.{◌≤◌};
+ghost use Rattle.std.specs.Prelude.{◌≤◌, IfOk, length};
+
+use std::io;
+use std::io::Read;
 
 // Above every number of a script: it has ended, or there is no room.
 pub const CUT: usize = 4294967296;
@@ -24,45 +27,64 @@ fn value_of(s: &[u8]) -> usize
     v
 }
 
+// Reads until the buffer is full or the input ends; how many bytes were read.
+fn read_full<R: Read>(input: &mut R, buf: &mut [u8]) -> io::Result<usize>
+    ensures { IfOk result (λ n. n ≤ length buf.new) }
+{
+    let mut done: usize = 0;
+    while done < buf.len() {
+        let n = input.read(&mut buf[done..])?;
+        if n == 0 {
+            return Ok(done);
+        }
+        done += n;
+    }
+    Ok(done)
+}
+
 // A number of up to four bytes.
-pub fn number(width: usize) -> usize
-    ensures { result ≤ 4294967296 }
+pub fn number<R: Read>(input: &mut R, width: usize) -> io::Result<usize>
+    ensures { IfOk result (λ n. n ≤ 4294967296) }
 {
     let mut small = [0u8; 4];
     if 4 < width {
-        return CUT;
+        return Ok(CUT);
     }
-    if io::read_full(0, &mut small[..width]) < width {
-        return CUT;
+    if read_full(input, &mut small[..width])? < width {
+        return Ok(CUT);
     }
-    value_of(&small[..width])
+    Ok(value_of(&small[..width]))
 }
 
 // Bytes behind their number; how many.
-pub fn take(buf: &mut [u8], width: usize) -> usize {
-    let n = number(width);
+pub fn take<R: Read>(input: &mut R, buf: &mut [u8], width: usize) -> io::Result<usize> {
+    let n = number(input, width)?;
     if buf.len() < n {
-        return CUT;
+        return Ok(CUT);
     }
-    if io::read_full(0, &mut buf[..n]) < n {
-        return CUT;
+    if read_full(input, &mut buf[..n])? < n {
+        return Ok(CUT);
     }
-    n
+    Ok(n)
 }
 
 // So many words of four bytes; how many.
-pub fn take_words(words: &mut [u32], count: usize) -> usize {
+pub fn take_words<R: Read>(
+    input: &mut R,
+    words: &mut [u32],
+    count: usize,
+) -> io::Result<usize> {
     if words.len() < count {
-        return CUT;
+        return Ok(CUT);
     }
     let mut i: usize = 0;
     while i < count {
-        let v = number(4);
+        let v = number(input, 4)?;
         if v == CUT {
-            return CUT;
+            return Ok(CUT);
         }
         words[i] = v as u32;
         i += 1;
     }
-    count
+    Ok(count)
 }

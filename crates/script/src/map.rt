@@ -4,6 +4,8 @@ ghost use Rattle.script.specs.Sevens.{sevens, sevens_from};
 
 use crate::answers::{say, say_word};
 use items::{Item, item_at};
+use std::io;
+use std::io::Write;
 
 // Sets every number to 7.
 pub fn set_all(map: &mut [u32])
@@ -30,29 +32,29 @@ fn kept_from(map: &[u32], from: usize) -> bool
 }
 
 // Says whether they are.
-pub fn say_kept(map: &[u32], from: usize) {
+pub fn say_kept<W: Write>(to: &mut W, map: &[u32], from: usize) -> io::Result<()> {
     if kept_from(map, from) {
-        say(b"map kept\n");
-        return;
+        return say(to, b"map kept\n");
     }
-    say(b"map changed\n");
+    say(to, b"map changed\n")
 }
 
-fn say_item(it: Item) {
-    say(b" ");
-    say_word(it.kind);
-    say_word(it.stream);
-    say_word(it.first);
-    say_word(it.width);
-    say(b"\n");
+fn say_item<W: Write>(to: &mut W, it: Item) -> io::Result<()> {
+    say(to, b" ")?;
+    say_word(to, it.kind)?;
+    say_word(to, it.stream)?;
+    say_word(to, it.first)?;
+    say_word(to, it.width)?;
+    say(to, b"\n")
 }
 
 // The first items, a line each.
-pub fn say_items(map: &[u32], items: u32) {
+pub fn say_items<W: Write>(to: &mut W, map: &[u32], items: u32) -> io::Result<()> {
     let mut i: u32 = 0;
     while i < items {
         let it = item_at(map, i as usize);
-        say_item(it);
+        say_item(to, it)?;
         i += 1;
     }
+    Ok(())
 }

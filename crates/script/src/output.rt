@@ -5,6 +5,8 @@ ghost use Rattle.script.specs.Sevens.{sevens, sevens_from};
 
 use crate::answers::{say, say_number, say_refused};
 use kernel::Refusal;
+use std::io;
+use std::io::Write;
 
 // Sets all bytes lent to 7.
 pub fn set_all(out: &mut [u8])
@@ -30,40 +32,39 @@ fn kept_from(out: &[u8], from: usize) -> bool
     kept
 }
 
-fn say_kept(out: &[u8], from: usize) {
+fn say_kept<W: Write>(to: &mut W, out: &[u8], from: usize) -> io::Result<()> {
     if kept_from(out, from) {
-        say(b"output kept\n");
-        return;
+        return say(to, b"output kept\n");
     }
-    say(b"output changed\n");
+    say(to, b"output changed\n")
 }
 
-fn say_byte(b: u8) {
-    io::print_hex(1, b as u64, 2);
+fn say_byte<W: Write>(to: &mut W, b: u8) -> io::Result<()> {
+    write!(to, "{b:02x}")
 }
 
-fn say_bytes(out: &[u8], n: usize) {
+fn say_bytes<W: Write>(to: &mut W, out: &[u8], n: usize) -> io::Result<()> {
     let mut i: usize = 0;
     while i < out.len() {
         if i < n {
-            say_byte(out[i]);
+            say_byte(to, out[i])?;
         }
         i += 1;
     }
-    say(b"\n");
+    say(to, b"\n")
 }
 
 // The bytes written, and whether those behind them were kept.
-pub fn say_done(out: &[u8], n: usize) {
-    say(b"done");
-    say_number(n);
-    say(b"\n");
-    say_bytes(out, n);
-    say_kept(out, n);
+pub fn say_done<W: Write>(to: &mut W, out: &[u8], n: usize) -> io::Result<()> {
+    say(to, b"done")?;
+    say_number(to, n)?;
+    say(to, b"\n")?;
+    say_bytes(to, out, n)?;
+    say_kept(to, out, n)
 }
 
 // A refusal, and whether all that was lent was kept.
-pub fn say_stopped(out: &[u8], x: Refusal) {
-    say_refused(x);
-    say_kept(out, 0);
+pub fn say_stopped<W: Write>(to: &mut W, out: &[u8], x: Refusal) -> io::Result<()> {
+    say_refused(to, x)?;
+    say_kept(to, out, 0)
 }

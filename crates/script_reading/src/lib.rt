@@ -5,6 +5,8 @@ use record_words::RECORD_WORDS;
 use records::Record;
 use row::Rowed;
 use script::{CUT, map, number, say, say_number, say_refused, say_row, say_word, take, take_words};
+use std::io;
+use std::io::{Read, Write};
 use sync::Hunted;
 
 // What is then held, and whether the script goes on.
@@ -23,115 +25,124 @@ pub fn after(held: Held, more: bool) -> Next {
 }
 
 // H: a record that is lent as held.
-pub fn hold(held: Held, words: &mut [u32]) -> Next {
-    let present = number(1);
-    let n = take_words(words, RECORD_WORDS);
+pub fn hold<R: Read>(input: &mut R, held: Held, words: &mut [u32]) -> io::Result<Next> {
+    let present = number(input, 1)?;
+    let n = take_words(input, words, RECORD_WORDS)?;
     if (1 < present) | (n != RECORD_WORDS) {
-        return after(held, false);
+        return Ok(after(held, false));
     }
     let r = record_words::record_in(words);
     let new = Held {
         present: present == 1,
         config: r,
     };
-    after(new, true)
+    Ok(after(new, true))
 }
 
-fn say_accepted(items: u32, count: u32, sent: bool) {
-    say(b"accepted, items");
-    say_word(items);
-    say(b", fields");
-    say_word(count);
+fn say_accepted<W: Write>(to: &mut W, items: u32, count: u32, sent: bool) -> io::Result<()> {
+    say(to, b"accepted, items")?;
+    say_word(to, items)?;
+    say(to, b", fields")?;
+    say_word(to, count)?;
     if sent {
-        say(b", configuration sent\n");
-        return;
+        return say(to, b", configuration sent\n");
     }
-    say(b", configuration held\n");
+    say(to, b", configuration held\n")
 }
 
-fn say_verdict(v: Verdict, map: &[u32]) {
+fn say_verdict<W: Write>(to: &mut W, v: Verdict, map: &[u32]) -> io::Result<()> {
     match v {
         Verdict::Accepted(items, count, sent) => {
-            say_accepted(items, count, sent);
-            map::say_items(map, items);
-            map::say_kept(map, 4 * (items as usize));
+            say_accepted(to, items, count, sent)?;
+            map::say_items(to, map, items)?;
+            map::say_kept(to, map, 4 * (items as usize))
         }
         Verdict::Refused(x) => {
-            say_refused(x);
-            map::say_kept(map, 0);
+            say_refused(to, x)?;
+            map::say_kept(to, map, 0)
         }
     }
 }
 
 // Reads an element into a map that is set to 7; what is then held.
-fn read_into(el: &[u8], held: Held, map: &mut [u32]) -> Held {
+fn read_into<W: Write>(to: &mut W, el: &[u8], held: Held, map: &mut [u32]) -> io::Result<Held> {
     map::set_all(map);
     let reply = reader::read(el, held, map);
     let v = reply.verdict;
-    say_verdict(v, map);
+    say_verdict(to, v, map)?;
     let new = reply.held;
-    new
+    Ok(new)
 }
 
 // R: an element, with room for so many numbers in the map.
-pub fn read(held: Held, bytes: &mut [u8], map: &mut [u32]) -> Next {
-    let room = number(2);
-    let n = take(bytes, 2);
+pub fn read<R: Read, W: Write>(
+    input: &mut R,
+    to: &mut W,
+    held: Held,
+    bytes: &mut [u8],
+    map: &mut [u32],
+) -> io::Result<Next> {
+    let room = number(input, 2)?;
+    let n = take(input, bytes, 2)?;
     if map.len() < room {
-        return after(held, false);
+        return Ok(after(held, false));
     }
     if bytes.len() < n {
-        return after(held, false);
+        return Ok(after(held, false));
     }
-    let new = read_into(&bytes[..n], held, &mut map[..room]);
-    after(new, true)
+    let new = read_into(to, &bytes[..n], held, &mut map[..room])?;
+    Ok(after(new, true))
 }
 
-fn say_if_there(r: Record, table: [[u8; 8]; 16], program: u32, layer: u32) {
+fn say_if_there<W: Write>(
+    to: &mut W,
+    r: Record,
+    table: [[u8; 8]; 16],
+    program: u32,
+    layer: u32,
+) -> io::Result<()> {
     let found = row::row_of(r, table, program, layer);
     let Rowed::Is(line) = found else {
-        return;
+        return Ok(());
     };
-    say_row(line);
+    say_row(to, line)
 }
 
 // W: all rows of a record, program by program.
-pub fn rows(r: Record) -> bool {
+pub fn rows<W: Write>(to: &mut W, r: Record) -> io::Result<bool> {
     let layers = r.layers;
     let table = records::table_of(layers, r.programs);
     let mut i: u32 = 0;
     while i < 128 {
-        say_if_there(r, table, i / 8, i % 8);
+        say_if_there(to, r, table, i / 8, i % 8)?;
         i += 1;
     }
-    true
+    Ok(true)
 }
 
-fn say_hunted(capture: &[u8], start: usize) {
+fn say_hunted<W: Write>(to: &mut W, capture: &[u8], start: usize) -> io::Result<()> {
     let h = sync::hunt(capture, start);
     match h {
         Hunted::Found(place, size) => {
-            say(b"found");
-            say_number(place);
-            say_number(size);
-            say(b"\n");
+            say(to, b"found")?;
+            say_number(to, place)?;
+            say_number(to, size)?;
+            say(to, b"\n")
         }
-        Hunted::Refused(x) => {
-            say_refused(x);
-        }
+        Hunted::Refused(x) => say_refused(to, x),
     }
 }
 
 // S: a capture and a start.
-pub fn hunt(bytes: &mut [u8]) -> bool {
-    let start = number(4);
-    let n = take(bytes, 3);
+pub fn hunt<R: Read, W: Write>(input: &mut R, to: &mut W, bytes: &mut [u8]) -> io::Result<bool> {
+    let start = number(input, 4)?;
+    let n = take(input, bytes, 3)?;
     if start == CUT {
-        return false;
+        return Ok(false);
     }
     if bytes.len() < n {
-        return false;
+        return Ok(false);
     }
-    say_hunted(&bytes[..n], start);
-    true
+    say_hunted(to, &bytes[..n], start)?;
+    Ok(true)
 }

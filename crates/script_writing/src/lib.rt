@@ -2,93 +2,96 @@
 #![tactic(auto)]
 use records::Record;
 use script::{number, output, take, take_words};
+use std::io;
+use std::io::{Read, Write};
 use sync::Framed;
 use writer::Written;
 
 // Writes an element into bytes that are set to 7.
-fn write_into(
+fn write_into<W: Write>(
+    to: &mut W,
     r: Record,
     send: bool,
     lengths: &[u32],
     payload: &[u8],
     other: &[u8],
     out: &mut [u8],
-) {
+) -> io::Result<()> {
     output::set_all(out);
     let w = writer::write(r, send, lengths, payload, other, out);
     match w {
-        Written::Done(n) => {
-            output::say_done(out, n);
-        }
-        Written::Refused(x) => {
-            output::say_stopped(out, x);
-        }
+        Written::Done(n) => output::say_done(to, out, n),
+        Written::Refused(x) => output::say_stopped(to, out, x),
     }
 }
 
 // P: an element.
-pub fn write(
+pub fn write<R: Read, W: Write>(
+    input: &mut R,
+    to: &mut W,
     r: Record,
     words: &mut [u32],
     bytes: &mut [u8],
     more: &mut [u8],
     out: &mut [u8],
-) -> bool {
-    let send = number(1);
-    let room = number(2);
-    let count = number(2);
-    let k = take_words(words, count);
-    let n = take(bytes, 3);
-    let m = take(more, 3);
+) -> io::Result<bool> {
+    let send = number(input, 1)?;
+    let room = number(input, 2)?;
+    let count = number(input, 2)?;
+    let k = take_words(input, words, count)?;
+    let n = take(input, bytes, 3)?;
+    let m = take(input, more, 3)?;
     if 1 < send {
-        return false;
+        return Ok(false);
     }
     if out.len() < room {
-        return false;
+        return Ok(false);
     }
     if words.len() < k {
-        return false;
+        return Ok(false);
     }
     if bytes.len() < n {
-        return false;
+        return Ok(false);
     }
     if more.len() < m {
-        return false;
+        return Ok(false);
     }
     write_into(
+        to,
         r,
         send == 1,
         &words[..k],
         &bytes[..n],
         &more[..m],
         &mut out[..room],
-    );
-    true
+    )?;
+    Ok(true)
 }
 
-fn frame_into(el: &[u8], out: &mut [u8]) {
+fn frame_into<W: Write>(to: &mut W, el: &[u8], out: &mut [u8]) -> io::Result<()> {
     output::set_all(out);
     let f = sync::frame(el, out);
     match f {
-        Framed::Done(n) => {
-            output::say_done(out, n);
-        }
-        Framed::Refused(x) => {
-            output::say_stopped(out, x);
-        }
+        Framed::Done(n) => output::say_done(to, out, n),
+        Framed::Refused(x) => output::say_stopped(to, out, x),
     }
 }
 
 // F: the frame of an element.
-pub fn frame(bytes: &mut [u8], out: &mut [u8]) -> bool {
-    let room = number(2);
-    let n = take(bytes, 3);
+pub fn frame<R: Read, W: Write>(
+    input: &mut R,
+    to: &mut W,
+    bytes: &mut [u8],
+    out: &mut [u8],
+) -> io::Result<bool> {
+    let room = number(input, 2)?;
+    let n = take(input, bytes, 3)?;
     if out.len() < room {
-        return false;
+        return Ok(false);
     }
     if bytes.len() < n {
-        return false;
+        return Ok(false);
     }
-    frame_into(&bytes[..n], &mut out[..room]);
-    true
+    frame_into(to, &bytes[..n], &mut out[..room])?;
+    Ok(true)
 }
