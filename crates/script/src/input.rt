@@ -1,5 +1,6 @@
 // Numbers and bytes of a script, from standard input.
-ghost use Rattle.std.specs.Prelude.{◌≤◌, IfOk, length};
+ghost use Rattle.std.specs.Prelude.{◌≡◌, ℕ, ◌<◌, ◌≤◌, IfOk, OnErr, length, take};
+ghost use Rattle.std.specs.Io.KnownBytes.{Consumes, IsAtEnd};
 
 use std::io;
 use std::io::Read;
@@ -27,9 +28,13 @@ fn value_of(s: &[u8]) -> usize
     v
 }
 
-// Reads until the buffer is full or the input ends; how many bytes were read.
+// Reads until the buffer is full or the input ends; how many bytes were read. A read that fails is an error, and never
+// the end: what was read before it stands at the start of the buffer.
 fn read_full<R: Read>(input: &mut R, buf: &mut [u8]) -> io::Result<usize>
-    ensures { IfOk result (λ n. n ≤ length buf.new) }
+    ensures count { IfOk result (λ n. n ≤ length buf.new) }
+    ensures bytes { IfOk result (λ n. Consumes (R.remaining input.old) (R.remaining input.new) (take n buf.new)) }
+    ensures end { IfOk result (λ n. n < length buf.new → IsAtEnd (R.remaining input.new)) }
+    ensures err { OnErr result ((k : ℕ) × Consumes (R.remaining input.old) (R.remaining input.new) (take k buf.new)) }
 {
     let mut done: usize = 0;
     while done < buf.len() {
@@ -44,7 +49,8 @@ fn read_full<R: Read>(input: &mut R, buf: &mut [u8]) -> io::Result<usize>
 
 // A number of up to four bytes.
 pub fn number<R: Read>(input: &mut R, width: usize) -> io::Result<usize>
-    ensures { IfOk result (λ n. n ≤ 4294967296) }
+    ensures value { IfOk result (λ n. n ≤ 4294967296) }
+    ensures cut { IfOk result (λ n. n ≡ CUT → width ≤ 4 → IsAtEnd (R.remaining input.new)) }
 {
     let mut small = [0u8; 4];
     if 4 < width {
