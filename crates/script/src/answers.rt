@@ -1,16 +1,23 @@
 // What is printed.
+ghost use Rattle.std.specs.Prelude.{OnOk, ◌∷◌, decimal};
+ghost use Rattle.std.specs.Io.KnownBytes.{Appends};
+
 use kernel::Refusal;
 use row::Row;
 use std::io;
 use std::io::Write;
 
 // Prints these bytes.
-pub fn say<W: Write>(to: &mut W, words: &[u8]) -> io::Result<()> {
+pub fn say<W: Write>(to: &mut W, words: &[u8]) -> io::Result<()>
+    ensures { OnOk result (Appends (W.contents to.old) (W.contents to.new) words.now) }
+{
     to.write_all(words)
 }
 
 // Behind a blank.
-pub fn say_number<W: Write>(to: &mut W, n: usize) -> io::Result<()> {
+pub fn say_number<W: Write>(to: &mut W, n: usize) -> io::Result<()>
+    ensures { OnOk result (Appends (W.contents to.old) (W.contents to.new) (32 ∷ decimal n)) }
+{
     write!(to, " {n}")
 }
 

@@ -79,7 +79,9 @@ pub fn take_words<R: Read>(
     input: &mut R,
     words: &mut [u32],
     count: usize,
-) -> io::Result<usize> {
+) -> io::Result<usize>
+    ensures { IfOk result (λ n. n ≡ CUT → count < CUT → count ≤ length words.old → IsAtEnd (R.remaining input.new)) }
+{
     if words.len() < count {
         return Ok(CUT);
     }
