@@ -1,0 +1,17 @@
+use Rattle.std.proofs.Common.{length, ◌≡◌, ℕ, List, ◌-◌}
+use Rattle.capture.specs.declared.Holding.{Holding}
+use Rattle.capture.specs.Frames.{start, frames_of, behind_all, point_of, Whole}
+use Rattle.summary.proofs.show.Given as goal
+
+-- what is kept leads to where all frames lead
+pub record Going (s out : List ℕ) (reached : Holding) : Type 0 where
+  pub long : length out ≡ 65536
+  pub whole : Whole reached
+  pub ahead : let c = point_of reached in
+      behind_all c (frames_of s 4368 c) ≡ behind_all start (frames_of s 4368 start)
+
+abbrev pub invariant-loop-block : goal.invariant-loop-block
+invariant-loop-block g l = Going l.capture l.out l.reached
+
+abbrev pub decreases-loop-block : goal.decreases-loop-block
+decreases-loop-block g l = length l.capture - l.reached.mark.at
