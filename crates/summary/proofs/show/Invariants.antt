@@ -10,8 +10,8 @@ pub record Going (s out : List ℕ) (reached : Holding) : Type 0 where
   pub ahead : let c = point_of reached in
       behind_all c (frames_of s 4368 c) ≡ behind_all start (frames_of s 4368 start)
 
-abbrev pub invariant-loop-block : goal.invariant-loop-block
-invariant-loop-block g l = Going l.capture l.out l.reached
+abbrev pub invariant-loop-reached : goal.invariant-loop-reached
+invariant-loop-reached g l = Going l.capture l.out l.reached
 
-abbrev pub decreases-loop-block : goal.decreases-loop-block
-decreases-loop-block g l = length l.capture - l.reached.mark.at
+abbrev pub decreases-loop-reached : goal.decreases-loop-reached
+decreases-loop-reached g l = length l.capture - l.reached.mark.at
