@@ -1,5 +1,6 @@
 // Takes a script of cases and prints every answer in full, as docs/SCRIPT.md says.
 #![tactic(auto)]
+
 use element::{Held, nothing_held};
 use script::number;
 use script_reading::{Next, after};

@@ -1,5 +1,6 @@
 // Lists a capture: a record of 24 bytes for each item of an accepted element, and one for a refused element.
 #![tactic(auto)]
+
 ghost use Rattle.std.specs.Prelude.{◌≡◌, length};
 
 use listing_blocks::lay_block;

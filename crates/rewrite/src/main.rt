@@ -1,5 +1,6 @@
 // Writes each accepted element of a capture anew, in a frame: the same record, slots and other data.
 #![tactic(auto)]
+
 ghost use Rattle.std.specs.Prelude.{◌≡◌, ◌+◌, ◌≤◌, ◌<◌, length};
 
 use capture::{Found, advance, holding_behind, start_holding};

@@ -75,11 +75,7 @@ pub fn take<R: Read>(input: &mut R, buf: &mut [u8], width: usize) -> io::Result<
 }
 
 // So many words of four bytes; how many.
-pub fn take_words<R: Read>(
-    input: &mut R,
-    words: &mut [u32],
-    count: usize,
-) -> io::Result<usize>
+pub fn take_words<R: Read>(input: &mut R, words: &mut [u32], count: usize) -> io::Result<usize>
     ensures { IfOk result (λ n. n ≡ CUT → count < CUT → count ≤ length words.old → IsAtEnd (R.remaining input.new)) }
 {
     if words.len() < count {

@@ -1,6 +1,7 @@
 // A script of cases (docs/SCRIPT.md): its numbers and bytes, taken from standard input piece by piece, and
 // the words of its answers.
 #![tactic(auto)]
+
 mod answers;
 mod input;
 // A map that is lent: set, and said.

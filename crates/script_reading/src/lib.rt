@@ -1,5 +1,6 @@
 // Cases of a script that read: H, R, W and S. Each says whether the script goes on.
 #![tactic(auto)]
+
 use element::{Held, Verdict};
 use record_words::RECORD_WORDS;
 use records::Record;

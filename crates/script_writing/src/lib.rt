@@ -1,5 +1,6 @@
 // Cases of a script that write: P and F. Each says whether the script goes on.
 #![tactic(auto)]
+
 use records::Record;
 use script::{number, output, take, take_words};
 use std::io;

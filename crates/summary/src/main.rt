@@ -1,6 +1,7 @@
 // Summarizes a capture for the duty desk: a line for each stream of a configuration that becomes held, and
 // one for each refused element.
 #![tactic(auto)]
+
 ghost use Rattle.std.specs.Prelude.{◌≡◌, IfOk, length};
 ghost use Rattle.capture.specs.Frames.{start, frames_of, behind_all};
 

@@ -21,6 +21,10 @@ pub loop-p-preserved : goal.loop-p-preserved
 loop-p-preserved g c =
     let l = c.loop-p.invariant in
     let t = took _ 4368 _ c.loop-p.map c.loop-p.table (whole_mark c.loop-p.reached l.4) c.advance-step.ensures l.0
-    _ _ _ c.in-Frame.is in
-    (search rules, search rules, search rules, search rules,
-    whole_then t c.loop-p.reached refl c.holding_behind-reached.ensures)
+    _ _ _ c.in-Frame.is in (
+      search rules,
+      search rules,
+      search rules,
+      search rules,
+      whole_then t c.loop-p.reached refl c.holding_behind-reached.ensures,
+    )
