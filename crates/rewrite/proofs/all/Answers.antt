@@ -1,6 +1,6 @@
 -- The frame that a turn took leads further, and what is kept with what is held leads to the point behind it.
-use Rattle.std.proofs.Common.{◌≡◌, refl, rules, arith}
-use Rattle.capture.specs.Frames.{point_of, Whole}
+use Rattle.std.proofs.Common.{refl, rules, arith}
+use Rattle.capture.specs.Frames.{point_of}
 use Rattle.capture.proofs.Steps.{whole_mark, took, took_further, whole_then}
 use Rattle.rewrite.proofs.all.Goals as goal
 
