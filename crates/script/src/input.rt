@@ -1,5 +1,5 @@
 // Numbers and bytes of a script, from standard input.
-ghost use Rattle.std.specs.Prelude.{◌≡◌, ℕ, ◌<◌, ◌≤◌, IfOk, OnErr, length, take};
+ghost use Rattle.std.specs.Prelude.{◌≡◌, ℕ, ◌<◌, ◌≤◌, IfOk, List, OnErr, length, take};
 ghost use Rattle.std.specs.Io.KnownBytes.{Consumes, IsAtEnd};
 
 use std::io;
@@ -47,10 +47,11 @@ fn read_full<R: Read>(input: &mut R, buf: &mut [u8]) -> io::Result<usize>
     Ok(done)
 }
 
-// A number of up to four bytes.
+// A number of up to four bytes. Where a read fails, what was read before it is gone from the input.
 pub fn number<R: Read>(input: &mut R, width: usize) -> io::Result<usize>
     ensures value { IfOk result (λ n. n ≤ 4294967296) }
     ensures cut { IfOk result (λ n. n ≡ CUT → width ≤ 4 → IsAtEnd (R.remaining input.new)) }
+    ensures err { OnErr result ((s : List ℕ) × Consumes (R.remaining input.old) (R.remaining input.new) s) }
 {
     let mut small = [0u8; 4];
     if 4 < width {
