@@ -3,9 +3,10 @@
 
 ghost use Rattle.std.specs.Prelude.{◌≡◌, length};
 
+use intake::read_full;
 use listing_blocks::lay_block;
 use std::io;
-use std::io::{Read, Write};
+use std::io::Write;
 
 // Writes the listing out, block by block.
 fn list<W: Write>(to: &mut W, capture: &[u8], out: &mut [u8]) -> io::Result<()>
@@ -24,12 +25,12 @@ fn list<W: Write>(to: &mut W, capture: &[u8], out: &mut [u8]) -> io::Result<()>
 }
 
 fn main(rt: HostRuntime) -> io::Result<()> {
-    let mut capture = Vec::new(rt.alloc());
-    rt.stdin().take(65536).read_to_end(&mut capture)?;
-    let mut more = Vec::new(rt.alloc());
-    let over = rt.stdin().take(1).read_to_end(&mut more)?;
+    let mut buf = [0; 65536];
+    let n = read_full(&mut rt.stdin(), &mut buf)?;
+    let mut more = [0; 1];
+    let over = read_full(&mut rt.stdin(), &mut more)?;
     let mut out = [0; 65536];
-    list(&mut rt.stdout(), &capture, &mut out)?;
+    list(&mut rt.stdout(), &buf[..n], &mut out)?;
     if over == 1 {
         rt.stderr().write_all(
             b"the capture is longer than 65536 bytes: only the first 65536 were listed\n",

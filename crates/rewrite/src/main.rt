@@ -5,11 +5,12 @@ ghost use Rattle.std.specs.Prelude.{◌≡◌, ◌+◌, ◌≤◌, ◌<◌, leng
 
 use capture::{Found, advance, holding_behind, start_holding};
 use element::Verdict;
+use intake::read_full;
 use items::{Item, copy_item, item_at};
 use kernel::least;
 use records::Record;
 use std::io;
-use std::io::{Read, Write};
+use std::io::Write;
 use sync::{Framed, element_at};
 use writer::Written;
 
@@ -152,10 +153,10 @@ fn all<W: Write>(
 }
 
 fn main(rt: HostRuntime) -> io::Result<()> {
-    let mut capture = Vec::new(rt.alloc());
-    rt.stdin().take(65536).read_to_end(&mut capture)?;
-    let mut more = Vec::new(rt.alloc());
-    let over = rt.stdin().take(1).read_to_end(&mut more)?;
+    let mut buf = [0; 65536];
+    let n = read_full(&mut rt.stdin(), &mut buf)?;
+    let mut more = [0; 1];
+    let over = read_full(&mut rt.stdin(), &mut more)?;
     let mut map = [0; 4368];
     let none = [255; 8];
     let mut table = [none; 16];
@@ -164,7 +165,7 @@ fn main(rt: HostRuntime) -> io::Result<()> {
     let mut out = [0; 8192];
     all(
         &mut rt.stdout(),
-        &capture,
+        &buf[..n],
         &mut map,
         &mut table,
         &mut lengths,

@@ -6,8 +6,9 @@ ghost use Rattle.std.specs.Prelude.{◌≡◌, IfOk, length};
 ghost use Rattle.capture.specs.Frames.{start, frames_of, behind_all};
 
 use capture::start_holding;
+use intake::read_full;
 use std::io;
-use std::io::{Read, Write};
+use std::io::Write;
 use summary_blocks::{lay_block, lay_end, lay_head};
 
 // Writes the lines of a capture out, block by block; the number of its frames.
@@ -30,15 +31,15 @@ fn show<W: Write>(to: &mut W, capture: &[u8], out: &mut [u8]) -> io::Result<usiz
 }
 
 fn main(rt: HostRuntime) -> io::Result<()> {
-    let mut capture = Vec::new(rt.alloc());
-    rt.stdin().take(65536).read_to_end(&mut capture)?;
-    let mut more = Vec::new(rt.alloc());
-    let over = rt.stdin().take(1).read_to_end(&mut more)?;
+    let mut buf = [0; 65536];
+    let n = read_full(&mut rt.stdin(), &mut buf)?;
+    let mut more = [0; 1];
+    let over = read_full(&mut rt.stdin(), &mut more)?;
     let mut out = [0; 65536];
     let mut to = rt.stdout();
     let head = lay_head(&mut out);
     to.write_all(&out[..head])?;
-    let frames = show(&mut to, &capture, &mut out)?;
+    let frames = show(&mut to, &buf[..n], &mut out)?;
     let end = lay_end(&mut out, frames, over == 1);
     to.write_all(&out[..end])
 }
