@@ -29,11 +29,11 @@ fn value_of(s: &[u8]) -> usize
     v
 }
 
-// A number of up to four bytes. Where a read fails, what was read before it is gone from the input.
+// A number of up to four bytes. What was read is gone from the input, also where a read fails behind it.
 pub fn number<R: Read>(input: &mut R, width: usize) -> io::Result<usize>
     ensures value { IfOk result (λ n. n ≤ 4294967296) }
     ensures cut { IfOk result (λ n. n ≡ CUT → width ≤ 4 → IsAtEnd (R.remaining input.new)) }
-    ensures err { OnErr result ((s : List ℕ) × Consumes (R.remaining input.old) (R.remaining input.new) s) }
+    ensures taken { (s : List ℕ) × Consumes (R.remaining input.old) (R.remaining input.new) s }
 {
     let mut small = [0u8; 4];
     if 4 < width {
@@ -46,7 +46,9 @@ pub fn number<R: Read>(input: &mut R, width: usize) -> io::Result<usize>
 }
 
 // Bytes behind their number; how many.
-pub fn take<R: Read>(input: &mut R, buf: &mut [u8], width: usize) -> io::Result<usize> {
+pub fn take<R: Read>(input: &mut R, buf: &mut [u8], width: usize) -> io::Result<usize>
+    ensures { (s : List ℕ) × Consumes (R.remaining input.old) (R.remaining input.new) s }
+{
     let n = number(input, width)?;
     if buf.len() < n {
         return Ok(CUT);
@@ -59,7 +61,8 @@ pub fn take<R: Read>(input: &mut R, buf: &mut [u8], width: usize) -> io::Result<
 
 // So many words of four bytes; how many.
 pub fn take_words<R: Read>(input: &mut R, words: &mut [u32], count: usize) -> io::Result<usize>
-    ensures { IfOk result (λ n. n ≡ CUT → count < CUT → count ≤ length words.old → IsAtEnd (R.remaining input.new)) }
+    ensures cut { IfOk result (λ n. n ≡ CUT → count < CUT → count ≤ length words.old → IsAtEnd (R.remaining input.new)) }
+    ensures taken { (s : List ℕ) × Consumes (R.remaining input.old) (R.remaining input.new) s }
 {
     if words.len() < count {
         return Ok(CUT);
