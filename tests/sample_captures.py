@@ -342,6 +342,43 @@ def damaged():
     yield held(ONE, [21])
 
 
+def lost_byte():
+    """Elements framed without their last byte, between whole ones."""
+    yield sent(ONE, [40])
+    # of a payload: 1 bit, 5, and all 8, where nothing is aligned behind it
+    yield cut(held_element(ONE, [[41]]), -1, ONE)
+    yield cut(sent_element(ONE, [[42]]), -1)
+    yield held(ONE, [43])
+    fixed = Mux(((Layer(Audio(2, Index(6), 1, "flag 1", Index(3)), 1, 20),),), version=1)
+    yield cut(sent_element(fixed, [[0]]), -1)
+    yield sent(fixed, [0])
+    yield cut(held_element(fixed, [[0]]), -1, fixed)
+    # of other data, and of a length byte
+    extra = one(other=20)
+    yield sent(extra, [44])
+    yield cut(held_element(extra, [[45]]), -1, extra)
+    yield cut(held_element(ONE, [[0]]), -1, extra)
+    yield held(extra, [46])
+
+
+def wrong_length():
+    """Lengths that were never meant, between elements that are whole."""
+    yield sent(ONE, [40])
+    # of a slot, of other data in groups and as a value, and of a configuration, up to which there would be fill
+    yield cut(held_element(ONE, [[4080]]), 60, ONE)
+    yield cut(held_element(ONE, [[1001]]), 61, ONE)
+    yield cut(sent_element(one(other=40000), [[41]]), 62)
+    yield cut(sent_element(v1(other=400000), [[42]]), 63)
+    yield cut(sent_element(v1(), [[43]], tails={0: ([(11, 1)], (30000, 0))}), 64)
+    yield held(ONE, [44])
+    # an ascLen too small: for the type, an index, 24 bits of Hz, and in an element that ends before ascLen does
+    yield past_asc_len(Audio(), 3)
+    yield past_asc_len(Audio(), 8)
+    yield past_asc_len(Audio(frequency=Hz(48000)), 9)
+    yield past_asc_len(Audio(frequency=Hz(48000)), 20, size=6)
+    yield held(ONE, [45])
+
+
 def no_configuration():
     yield from (held(ONE, [size]) for size in (0, 1, 30, 255))
 
@@ -349,6 +386,10 @@ def no_configuration():
 # A frame that the end of the capture cuts short, after which no other 56 comes.
 CUT_FRAME = sent(ONE, [60]).data()[:50]
 assert 0x56 not in CUT_FRAME[1:]
+
+# The last frame without its last byte: the capture ends in it, so that none stands there.
+LAST_BYTE_LOST = held(one(other=20), [47]).data()[:-1]
+assert 0x56 not in LAST_BYTE_LOST[1:]
 
 # L = 8191 passes the end. The last frame ends one byte before the capture does, and one byte is no sync.
 NO_FRAME = FALSE_SYNCS + bytes.fromhex("56 FF FF 00 01") + CUT_FRAME + unfollowed(sent(ONE, [1]))[:-2]
@@ -362,6 +403,8 @@ samples = {
     "subframes": list(subframes()),
     "blocks": list(blocks()),
     "damaged": list(damaged()) + [CUT_FRAME],
+    "lost-byte": list(lost_byte()) + [LAST_BYTE_LOST],
+    "wrong-length": list(wrong_length()),
     "no-frame": [NO_FRAME],
     "no-configuration": list(no_configuration()),
 }
