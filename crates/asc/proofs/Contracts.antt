@@ -15,19 +15,19 @@ pub is_core_allows_one : AllowsOne is_core.Learnt (λ k r e. r)
 is_core_allows_one k a x y e f p q = p ∙ sym q
 
 pub object_type_allows_one : AllowsOne object_type.Learnt (λ k r e. r)
-object_type_allows_one k a x y e f p q = fetched_once _ _ _ _ x y p q
+object_type_allows_one k a x y e f p q = fetched_once _ _ _ x y p q
 
 pub any_type_allows_one : AllowsOne any_type.Learnt (λ k r e. r)
-any_type_allows_one k a x y e f p q = fetched_once _ _ _ _ x y p q
+any_type_allows_one k a x y e f p q = fetched_once _ _ _ x y p q
 
 pub frequency_of_allows_one : AllowsOne frequency_of.Learnt (λ k r e. r)
-frequency_of_allows_one k a x y e f p q = rated_once _ _ _ _ x y p q
+frequency_of_allows_one k a x y e f p q = rated_once _ _ _ x y p q
 
 pub left_of_allows_one : AllowsOne left_of.Learnt (λ k r e. r)
 left_of_allows_one k a x y e f p q = p ∙ sym q
 
 pub asc_tail_allows_one : AllowsOne asc_tail.Learnt (λ k r e. r)
-asc_tail_allows_one k a x y e f p q = formed_once _ _ _ _ x y p q
+asc_tail_allows_one k a x y e f p q = formed_once _ _ _ x y p q
 
 pub audio_specific_config_allows_one : AllowsOne audio_specific_config.Learnt (λ k r e. r)
-audio_specific_config_allows_one k a x y e f p q = configured_once _ _ _ _ x y p q
+audio_specific_config_allows_one k a x y e f p q = configured_once _ _ _ x y p q

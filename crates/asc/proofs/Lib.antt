@@ -1,5 +1,4 @@
 -- The laws that the proofs of this crate cite, and the theorems.
-pub mod Types
 pub mod TripAsc
 pub mod Given
 pub mod ShortestAsc

@@ -4,11 +4,13 @@ use Rattle.kernel.specs.declared.Window.{Window}
 use Rattle.kernel.specs.declared.Window.TheVariants.{Open, UpTo}
 use Rattle.kernel.specs.Reading.{gave, run}
 use Rattle.kernel.specs.Trip.{Reads}
+use Rattle.records.specs.declared.Freq.{Freq}
+use Rattle.records.specs.declared.Form.{Form}
 use Rattle.records.specs.declared.Config.{Config}
+use Rattle.asc.specs.declared.Flags.{Flags}
 use Rattle.records.specs.Valid.{valid_config}
-use Rattle.kernel.specs.Promises.{TellsOnce}
+use Rattle.kernel.specs.Promises.{ToldOnce}
 use Rattle.asc.specs.Asc.{audio_specific_config, asc_bits}
-use Rattle.asc.specs.Answer.{told_rated, told_flagged, told_formed, told_configured}
 
 -- a valid configuration, written alone, reads back in version 0, where no tail is looked for,
 abbrev pub ConfigReadsBack : Type 0
@@ -28,16 +30,16 @@ ConfigIsShortest =
 
 -- each promise allows one answer: of a frequency,
 abbrev pub RatedOnce : Type 0
-RatedOnce = TellsOnce told_rated
+RatedOnce = ToldOnce Freq
 
 -- of the flags,
 abbrev pub FlaggedOnce : Type 0
-FlaggedOnce = TellsOnce told_flagged
+FlaggedOnce = ToldOnce Flags
 
 -- of a form,
 abbrev pub FormedOnce : Type 0
-FormedOnce = TellsOnce told_formed
+FormedOnce = ToldOnce Form
 
 -- and of a whole configuration
 abbrev pub ConfiguredOnce : Type 0
-ConfiguredOnce = TellsOnce told_configured
+ConfiguredOnce = ToldOnce Config

@@ -1,89 +1,72 @@
 // Object types: which are carried, and where.
 ghost use Rattle.std.specs.Prelude.{◌≡◌, ◌≤◌};
 ghost use Rattle.kernel.specs.Reading.{refuse_after, Stands};
-ghost use Rattle.kernel.specs.Answer.{told_fetched};
-ghost use Rattle.kernel.specs.Promises.{Tells};
+ghost use Rattle.kernel.specs.Answer.{told};
 ghost use Rattle.asc.specs.Asc.{is_core, is_front, object_type, any_type};
 ghost use Rattle.asc.specs.Answer.{carried_if};
 
 use bits::take_at;
-use kernel::{Cursor, Fetched, Window, refused_at};
+use kernel::{Cursor, Read, Refusal, Window, refused_at};
 
 // Types that stand alone, or under type 5 or 29.
 pub fn is_core(t: u32) -> bool
     ensures { result ≡ is_core t }
 {
-    match t {
-        1..=4 => true,
-        _ => false,
-    }
+    matches!(t, 1..=4)
 }
 
 fn is_front(t: u32) -> bool
     ensures { result ≡ is_front t }
 {
-    match t {
-        1..=5 | 29 => true,
-        _ => false,
-    }
+    matches!(t, 1..=5 | 29)
 }
 
+#[tactic(auto, unfolding(crate::specs::Answer::carried_if))]
 fn carried(under: bool, t: u32) -> bool
     ensures { result ≡ carried_if under t }
 {
-    if under {
-        return is_core(t);
-    }
-    is_front(t)
+    if under { is_core(t) } else { is_front(t) }
 }
 
 // The six more bits of a five-bit type 31, for which no type is carried.
-fn escaped(el: &[u8], win: Window, c: Cursor) -> Fetched
-    requires { (5 ≤ c.at) × Stands el.now c.at c.fields }
-    ensures { Tells told_fetched el.now (refuse_after win 6 8 5) c.at c.fields result }
+#[tactic(auto, using(kernel::proofs::Steps::fields))]
+fn escaped(el: &[u8], win: Window, c: Cursor) -> Result<Read<u32>, Refusal>
+    requires { (5 ≤ c.at) × Stands el.now c }
+    ensures { result ≡ told el.now (refuse_after win 6 8 5) c }
 {
-    let place = c.at - 5;
-    let six = take_at(el, win, c, 6);
-    let Fetched::Value(_, c1) = six else {
-        return six;
-    };
-    Fetched::Refused(refused_at(8, place, c1))
+    let six = take_at(el, win, c, 6)?;
+    Err(refused_at(8, c.at - 5, six.next))
 }
 
 // A type that is carried in front, or as a core under type 5 or 29.
-pub fn object_type(el: &[u8], win: Window, c: Cursor, under: bool) -> Fetched
-    requires { Stands el.now c.at c.fields }
-    ensures { Tells told_fetched el.now (object_type (carried_if under) win) c.at c.fields result }
+#[tactic(auto, using(kernel::proofs::Steps::fields), unfolding(crate::specs::Asc::object_type))]
+pub fn object_type(el: &[u8], win: Window, c: Cursor, under: bool) -> Result<Read<u32>, Refusal>
+    requires { Stands el.now c }
+    ensures { result ≡ told el.now (object_type (carried_if under) win) c }
 {
-    let place = c.at;
-    let five = take_at(el, win, c, 5);
-    let Fetched::Value(t, c1) = five else {
-        return five;
-    };
-    if t == 31 {
-        return escaped(el, win, c1);
+    let five = take_at(el, win, c, 5)?;
+    if five.value == 31 {
+        return escaped(el, win, five.next);
     }
-    if carried(under, t) {
-        return Fetched::Value(t, c1);
+    if !carried(under, five.value) {
+        return Err(refused_at(8, c.at, five.next));
     }
-    Fetched::Refused(refused_at(8, place, c1))
+    Ok(five)
 }
 
 // Any type, with the six more bits of 31.
-pub fn any_type(el: &[u8], win: Window, c: Cursor) -> Fetched
-    requires { Stands el.now c.at c.fields }
-    ensures { Tells told_fetched el.now (any_type win) c.at c.fields result }
+#[tactic(auto, using(kernel::proofs::Steps::fields), unfolding(crate::specs::Asc::any_type))]
+pub fn any_type(el: &[u8], win: Window, c: Cursor) -> Result<Read<u32>, Refusal>
+    requires { Stands el.now c }
+    ensures { result ≡ told el.now (any_type win) c }
 {
-    let five = take_at(el, win, c, 5);
-    let Fetched::Value(t, c1) = five else {
-        return five;
-    };
-    if t == 31 {
-        let six = take_at(el, win, c1, 6);
-        let Fetched::Value(m, c2) = six else {
-            return six;
-        };
-        return Fetched::Value(32 + m, c2);
+    let five = take_at(el, win, c, 5)?;
+    if five.value != 31 {
+        return Ok(five);
     }
-    Fetched::Value(t, c1)
+    let six = take_at(el, win, five.next, 6)?;
+    Ok(Read {
+        value: 32 + six.value,
+        next: six.next,
+    })
 }

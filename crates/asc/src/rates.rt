@@ -1,48 +1,41 @@
 // Frequencies, by index or in 24 bits.
+ghost use Rattle.std.specs.Prelude.{◌≡◌};
 ghost use Rattle.kernel.specs.Reading.{Stands};
-ghost use Rattle.kernel.specs.Promises.{Tells};
+ghost use Rattle.kernel.specs.Answer.{told};
 ghost use Rattle.asc.specs.Asc.{hertz, frequency};
-ghost use Rattle.asc.specs.Answer.{told_rated};
 
-use crate::{Rated, ReadFreq};
 use bits::take_at;
-use kernel::{Cursor, Fetched, Window, refused_at, why};
+use kernel::{Cursor, Read, Refusal, Window, refused_at};
 use records::Freq;
 
-fn hertz_of(el: &[u8], win: Window, c: Cursor) -> Rated
-    requires { Stands el.now c.at c.fields }
-    ensures { Tells told_rated el.now (hertz win) c.at c.fields result }
+#[tactic(auto, using(kernel::proofs::Steps::fields), unfolding(crate::specs::Asc::hertz))]
+fn hertz_of(el: &[u8], win: Window, c: Cursor) -> Result<Read<Freq>, Refusal>
+    requires { Stands el.now c }
+    ensures { result ≡ told el.now (hertz win) c }
 {
-    let place = c.at;
-    let hz = take_at(el, win, c, 24);
-    let Fetched::Value(h, c1) = hz else {
-        return Rated::Refused(why(hz));
-    };
-    if h == 0 {
-        return Rated::Refused(refused_at(9, place, c1));
+    let hz = take_at(el, win, c, 24)?;
+    if hz.value == 0 {
+        return Err(refused_at(9, c.at, hz.next));
     }
-    Rated::Value(ReadFreq {
-        freq: Freq::Hz(h),
-        next: c1,
+    Ok(Read {
+        value: Freq::Hz(hz.value),
+        next: hz.next,
     })
 }
 
 // A frequency by its index, or in 24 bits behind index 15.
-pub fn frequency_of(el: &[u8], win: Window, c: Cursor) -> Rated
-    requires { Stands el.now c.at c.fields }
-    ensures { Tells told_rated el.now (frequency win) c.at c.fields result }
+#[tactic(auto, using(kernel::proofs::Steps::fields), unfolding(crate::specs::Asc::frequency))]
+pub fn frequency_of(el: &[u8], win: Window, c: Cursor) -> Result<Read<Freq>, Refusal>
+    requires { Stands el.now c }
+    ensures { result ≡ told el.now (frequency win) c }
 {
-    let place = c.at;
-    let four = take_at(el, win, c, 4);
-    let Fetched::Value(i, c1) = four else {
-        return Rated::Refused(why(four));
-    };
-    match i {
-        0..=12 => Rated::Value(ReadFreq {
-            freq: Freq::Index(i),
-            next: c1,
+    let four = take_at(el, win, c, 4)?;
+    match four.value {
+        0..=12 => Ok(Read {
+            value: Freq::Index(four.value),
+            next: four.next,
         }),
-        15 => hertz_of(el, win, c1),
-        _ => Rated::Refused(refused_at(9, place, c1)),
+        15 => hertz_of(el, win, four.next),
+        _ => Err(refused_at(9, c.at, four.next)),
     }
 }

@@ -1,15 +1,13 @@
 // What stands behind 0x2B7: SBR and PS, signalled by flags.
 ghost use Rattle.std.specs.Prelude.{◌≡◌};
 ghost use Rattle.kernel.specs.Reading.{Stands};
-ghost use Rattle.kernel.specs.Promises.{Tells};
+ghost use Rattle.kernel.specs.Answer.{told};
 ghost use Rattle.asc.specs.Asc.{left, ps_extension, ps_tail, sbr_extension, extension_type, sync_extension, tail};
-ghost use Rattle.asc.specs.Answer.{told_formed};
 
 use crate::object_types::any_type;
 use crate::rates::frequency_of;
-use crate::{Formed, Rated, ReadForm};
 use bits::take_at;
-use kernel::{Cursor, Fetched, Window, refused_at, why};
+use kernel::{Cursor, Read, Refusal, Window, refused_at};
 use records::{Form, Freq};
 
 // The bits of ascLen that are left.
@@ -18,122 +16,92 @@ pub fn left_of(win: Window, at: usize) -> usize
 {
     match win {
         Window::Open => 0,
-        Window::UpTo(e) => {
-            if e < at {
-                return 0;
-            }
-            e - at
-        }
+        Window::UpTo(e) => e.saturating_sub(at),
     }
 }
 
-// psPresentFlag after 0x548.
-fn ps_extension(el: &[u8], win: Window, c: Cursor, x: Freq) -> Formed
-    requires { Stands el.now c.at c.fields }
-    ensures { Tells told_formed el.now (ps_extension x win) c.at c.fields result }
+// A form that was signalled before the cursor.
+fn signalled(form: Form, next: Cursor) -> Result<Read<Form>, Refusal>
+    ensures { result ≡ Ok (record { value = form; next = next }) }
 {
-    let sync = take_at(el, win, c, 11);
-    let Fetched::Value(s, c1) = sync else {
-        return Formed::Refused(why(sync));
-    };
-    if s == 1352 {
-        let flag = take_at(el, win, c1, 1);
-        let Fetched::Value(f, c2) = flag else {
-            return Formed::Refused(why(flag));
-        };
-        return Formed::Value(ReadForm {
-            form: Form::FlagPs(x, f),
-            next: c2,
-        });
-    }
-    Formed::Value(ReadForm {
-        form: Form::Flag1(x),
-        next: c1,
+    Ok(Read {
+        value: form,
+        next: next,
     })
 }
 
-fn ps_tail(el: &[u8], win: Window, c: Cursor, x: Freq) -> Formed
-    requires { Stands el.now c.at c.fields }
-    ensures { Tells told_formed el.now (ps_tail x win) c.at c.fields result }
+// psPresentFlag after 0x548.
+#[tactic(auto, using(kernel::proofs::Steps::steps), unfolding(crate::specs::Asc::ps_extension))]
+fn ps_extension(el: &[u8], win: Window, c: Cursor, x: Freq) -> Result<Read<Form>, Refusal>
+    requires { Stands el.now c }
+    ensures { result ≡ told el.now (ps_extension x win) c }
+{
+    let sync = take_at(el, win, c, 11)?;
+    if sync.value != 0x548 {
+        return signalled(Form::Flag1(x), sync.next);
+    }
+    let flag = take_at(el, win, sync.next, 1)?;
+    signalled(Form::FlagPs(x, flag.value), flag.next)
+}
+
+#[tactic(auto, using(kernel::proofs::Steps::steps), unfolding(crate::specs::Asc::ps_tail))]
+fn ps_tail(el: &[u8], win: Window, c: Cursor, x: Freq) -> Result<Read<Form>, Refusal>
+    requires { Stands el.now c }
+    ensures { result ≡ told el.now (ps_tail x win) c }
 {
     if 12 <= left_of(win, c.at) {
         return ps_extension(el, win, c, x);
     }
-    Formed::Value(ReadForm {
-        form: Form::Flag1(x),
-        next: c,
-    })
+    signalled(Form::Flag1(x), c)
 }
 
-fn sbr_extension(el: &[u8], win: Window, c: Cursor) -> Formed
-    requires { Stands el.now c.at c.fields }
-    ensures { Tells told_formed el.now (sbr_extension win) c.at c.fields result }
+#[tactic(auto, using(kernel::proofs::Steps::steps), unfolding(crate::specs::Asc::sbr_extension))]
+fn sbr_extension(el: &[u8], win: Window, c: Cursor) -> Result<Read<Form>, Refusal>
+    requires { Stands el.now c }
+    ensures { result ≡ told el.now (sbr_extension win) c }
 {
-    let flag = take_at(el, win, c, 1);
-    let Fetched::Value(f, c1) = flag else {
-        return Formed::Refused(why(flag));
-    };
-    if f == 1 {
-        let rated = match frequency_of(el, win, c1) {
-            Rated::Value(r) => r,
-            Rated::Refused(x) => return Formed::Refused(x),
-        };
-        let x = rated.freq;
-        return ps_tail(el, win, rated.next, x);
+    let flag = take_at(el, win, c, 1)?;
+    if flag.value != 1 {
+        return signalled(Form::Flag0, flag.next);
     }
-    Formed::Value(ReadForm {
-        form: Form::Flag0,
-        next: c1,
-    })
+    let x = frequency_of(el, win, flag.next)?;
+    ps_tail(el, win, x.next, x.value)
 }
 
 // The type after 0x2B7: 5 goes on, 22 is refused, and any other says nothing.
-fn extension_type(el: &[u8], win: Window, c: Cursor) -> Formed
-    requires { Stands el.now c.at c.fields }
-    ensures { Tells told_formed el.now (extension_type win) c.at c.fields result }
+#[tactic(auto, using(kernel::proofs::Steps::fields), unfolding(crate::specs::Asc::extension_type, crate::specs::Asc::any_type))]
+fn extension_type(el: &[u8], win: Window, c: Cursor) -> Result<Read<Form>, Refusal>
+    requires { Stands el.now c }
+    ensures { result ≡ told el.now (extension_type win) c }
 {
-    let place = c.at;
-    let number = any_type(el, win, c);
-    let Fetched::Value(t, c1) = number else {
-        return Formed::Refused(why(number));
-    };
-    match t {
-        5 => sbr_extension(el, win, c1),
-        22 => Formed::Refused(refused_at(8, place, c1)),
-        _ => Formed::Value(ReadForm {
-            form: Form::None,
-            next: c1,
-        }),
+    let number = any_type(el, win, c)?;
+    match number.value {
+        5 => sbr_extension(el, win, number.next),
+        22 => Err(refused_at(8, c.at, number.next)),
+        _ => signalled(Form::None, number.next),
     }
 }
 
-fn sync_extension(el: &[u8], win: Window, c: Cursor) -> Formed
-    requires { Stands el.now c.at c.fields }
-    ensures { Tells told_formed el.now (sync_extension win) c.at c.fields result }
+#[tactic(auto, using(kernel::proofs::Steps::steps), unfolding(crate::specs::Asc::sync_extension))]
+fn sync_extension(el: &[u8], win: Window, c: Cursor) -> Result<Read<Form>, Refusal>
+    requires { Stands el.now c }
+    ensures { result ≡ told el.now (sync_extension win) c }
 {
-    let sync = take_at(el, win, c, 11);
-    let Fetched::Value(s, c1) = sync else {
-        return Formed::Refused(why(sync));
-    };
-    if s == 695 {
-        return extension_type(el, win, c1);
+    let sync = take_at(el, win, c, 11)?;
+    if sync.value != 0x2B7 {
+        return signalled(Form::None, sync.next);
     }
-    Formed::Value(ReadForm {
-        form: Form::None,
-        next: c1,
-    })
+    extension_type(el, win, sync.next)
 }
 
 // The tail of an AudioSpecificConfig, 0x2B7 and what it signals, where at least 16 bits of ascLen are left.
-pub fn asc_tail(el: &[u8], win: Window, c: Cursor) -> Formed
-    requires { Stands el.now c.at c.fields }
-    ensures { Tells told_formed el.now (tail win) c.at c.fields result }
+#[tactic(auto, using(kernel::proofs::Steps::steps), unfolding(crate::specs::Asc::tail))]
+pub fn asc_tail(el: &[u8], win: Window, c: Cursor) -> Result<Read<Form>, Refusal>
+    requires { Stands el.now c }
+    ensures { result ≡ told el.now (tail win) c }
 {
-    if 16 <= left_of(win, c.at) {
-        return sync_extension(el, win, c);
+    if left_of(win, c.at) < 16 {
+        return signalled(Form::None, c);
     }
-    Formed::Value(ReadForm {
-        form: Form::None,
-        next: c,
-    })
+    sync_extension(el, win, c)
 }

@@ -5,4 +5,4 @@ use Rattle.kernel.proofs.Theorems.{fetched_once}
 use Rattle.bits.proofs.take_at.Reads as take_at
 
 pub take_at_allows_one : AllowsOne take_at.Learnt (λ k r e. r)
-take_at_allows_one k a x y e f p q = fetched_once _ _ _ _ x y p q
+take_at_allows_one k a x y e f p q = fetched_once _ _ _ x y p q

@@ -5,7 +5,6 @@ use Rattle.kernel.proofs.Theorems.{fetched_once, reached_once, put_fixes_all, st
 use Rattle.kernel.proofs.refused_at.Reads as refused_at
 use Rattle.kernel.proofs.unread.Reads as unread
 use Rattle.kernel.proofs.fetch.Reads as fetch
-use Rattle.kernel.proofs.why.Reads as why
 use Rattle.kernel.proofs.skip.Reads as skip
 use Rattle.kernel.proofs.least.Reads as least
 use Rattle.kernel.proofs.put.Reads as put
@@ -21,13 +20,10 @@ pub unread_allows_one : AllowsOne unread.Learnt (λ k r e. r)
 unread_allows_one k a x y e f p q = p ∙ sym q
 
 pub fetch_allows_one : AllowsOne fetch.Learnt (λ k r e. r)
-fetch_allows_one k a x y e f p q = fetched_once _ _ _ _ x y p q
-
-pub why_allows_one : AllowsOne why.Learnt (λ k r e. r)
-why_allows_one k a x y e f p q = p ∙ sym q
+fetch_allows_one k a x y e f p q = fetched_once _ _ _ x y p q
 
 pub skip_allows_one : AllowsOne skip.Learnt (λ k r e. r)
-skip_allows_one k a x y e f p q = reached_once _ _ _ _ x y p q
+skip_allows_one k a x y e f p q = reached_once _ _ _ x y p q
 
 pub least_allows_one : AllowsOne least.Learnt (λ k r e. r)
 least_allows_one k a x y e f p q = p ∙ sym q

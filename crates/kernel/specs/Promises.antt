@@ -1,18 +1,17 @@
--- Promises by name, and what it is that one allows one result. What reads promises by `Tells`; what puts and lays, by
--- `Put` and `Stored`.
-use Rattle.std.specs.Prelude.{◌≡◌, List, ℕ}
+-- What it is that a promise allows one result. What reads promises that its answer is what is `told`; what puts and lays
+-- promises by `Put` and `Stored`.
+use Rattle.std.specs.Prelude.{◌≡◌, List, ℕ, Result}
+use Rattle.kernel.specs.declared.Cursor.{Cursor}
+use Rattle.kernel.specs.declared.Read.{Read}
+use Rattle.kernel.specs.declared.Refusal.{Refusal}
 use Rattle.kernel.specs.Bits.{Bytes}
-use Rattle.kernel.specs.Reading.{Reading, run}
-use Rattle.kernel.specs.Answer.{Told, told}
+use Rattle.kernel.specs.Reading.{Reading}
+use Rattle.kernel.specs.Answer.{told}
 
--- by t, the answer r tells what the reading m of s comes to, from bit `at` with n fields read
-abbrev pub Tells : {R A : Type 0} → (R → Told A) → List ℕ → Reading A → ℕ → ℕ → R → Type 0
-Tells t s m at n r = t r ≡ told (run s m at n)
-
--- which allows one answer, whatever is read
-abbrev pub TellsOnce : {R A : Type 0} → (R → Told A) → Type 0
-TellsOnce {R} {A} t =
-    (s : List ℕ) (m : Reading A) (at n : ℕ) (x y : R) → Tells t s m at n x → Tells t s m at n y → x ≡ y
+-- what is told of a reading is one answer, whatever is read
+abbrev pub ToldOnce : Type 0 → Type 0
+ToldOnce A = (s : List ℕ) (m : Reading A) (c : Cursor) (x y : Result (Read A) Refusal) → x ≡ told s m c → y ≡ told s m c
+    → x ≡ y
 
 -- A contract is what a caller learns of the arguments, the answer, and what is then seen of them, at the lifetimes of
 -- the call.
