@@ -1,5 +1,6 @@
 -- What a production comes to, step by step: each step is an equation of what is told.
 use Rattle.std.proofs.Common.{◌≡◌, refl, ap, sym, subst, ◌∙◌, ℕ, ◌+◌, ◌-◌, ◌*◌, ◌≤◌, ◌<◌, ◌^◌, Bool, true, false, cond, List, length, ltb, Result, Ok, Err, min, arith}
+use Rattle.std.proofs.lemmas.Bool.Decides.{nat_tests}
 use Rattle.kernel.specs.declared.Window.{Window}
 use Rattle.kernel.specs.declared.Refusal.{Refusal}
 use Rattle.kernel.specs.declared.Cursor.{Cursor}
@@ -110,6 +111,6 @@ told_stands {A} s m c h = go (run s m c.at c.fields) refl
         rw (e, g)
     go (refused x) q = refl
 
-pub ruleset steps = (told_bind, told_give, told_refuse, told_choose, told_need, told_here, told_stands)
+pub ruleset steps = (told_bind, told_give, told_refuse, told_choose, told_need, told_here, told_stands, nat_tests)
 
 pub ruleset fields = (steps, told_field, told_refuse_after, value_lt)

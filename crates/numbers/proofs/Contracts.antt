@@ -7,10 +7,10 @@ use Rattle.numbers.proofs.writing.put_value.Reads as put_value
 use Rattle.numbers.proofs.writing.put_groups.Reads as put_groups
 
 pub latm_get_value_allows_one : AllowsOne latm_get_value.Learnt (λ k r e. r)
-latm_get_value_allows_one k a x y e f p q = fetched_once _ _ _ _ x y p q
+latm_get_value_allows_one k a x y e f p q = fetched_once _ _ _ x y p q
 
 pub groups_of_allows_one : AllowsOne groups_of.Learnt (λ k r e. r)
-groups_of_allows_one k a x y e f p q = fetched_once _ _ _ _ x y p q
+groups_of_allows_one k a x y e f p q = fetched_once _ _ _ x y p q
 
 pub put_value_allows_one : AllowsOneOfBytes put_value.Learnt (λ k e. e.0.now)
 put_value_allows_one k a x y e f g h p q = put_fixes_all _ _ _ _ _ x y g h p.1 q.1

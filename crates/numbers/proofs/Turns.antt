@@ -1,68 +1,76 @@
--- One turn of the productions that loop.
+-- One turn of the productions that loop: what is left of n bytes or groups behind i of them.
 use mathlib.Core.Path.{◌≡◌, refl}
 use mathlib.Core.Bool.{Bool, true, false, ◌||◌}
-use mathlib.Core.List.{List, ◌++◌}
+use mathlib.Core.List.{◌++◌}
 use Prim.Native.Nat.{ℕ, zero, suc, ◌+◌, ◌*◌, ◌-◌, ◌/◌, ◌^◌, ◌≤◌, ◌<◌}
 use native.Mathlib.Omega.{arith}
 use lib.Dec.{leb, eqb}
 use lib.Pow.{pow-add, pow_mono}
-use borrow.Author.Tests.{le-leb, lt-leb, leb-true, leb-false}
 use Rattle.kernel.specs.declared.Window.TheVariants.{Open}
-use Rattle.kernel.specs.declared.Cursor.{Cursor}
 use Rattle.kernel.specs.Bits.{bits_of}
 use Rattle.kernel.specs.Reading.{Reading, give, field, choose, need, ◌>>=◌, ◌>>◌}
-use Rattle.kernel.proofs.Along.{Remains}
+use Rattle.kernel.proofs.Steps.{fields}
 use Rattle.numbers.specs.Values.{bytes_from, groups_from, groups_after}
 
--- a loop that adds a byte to v each turn, with `left` of n turns left
-pub record Adding (n left v : ℕ) (s : List ℕ) (all : Reading ℕ) (c₀ : Cursor) (rest : Reading ℕ) (c : Cursor)
-    : Type 0 where
-  pub few : left ≤ n
-  pub small : v < 2 ^ (8 * (n - left))
-  pub remains : Remains s all c₀.at c₀.fields rest c.at c.fields
+-- one more than any number of i bytes
+unfoldable pub numbers_of : ℕ → ℕ
+numbers_of i = 2 ^ (8 * i)
+
+pub numbers_of_none : numbers_of 0 ≡ 1
+unfolding numbers_of
+numbers_of_none = refl
+
+pub numbers_of_more : (i : ℕ) → numbers_of (i + 1) ≡ 256 * numbers_of i
+unfolding numbers_of
+numbers_of_more i = let k : 8 * (i + 1) ≡ 8 * i + 8 = omega arith in rw k (omega (arith, pow-add 2 (8 * i) 8))
+
+pub numbers_of_four : (i : ℕ) → i < 4 → numbers_of i ≤ 16777216
+unfolding numbers_of
+numbers_of_four i h = pow_mono {i = 8 * i} {j = 24} (omega arith)
+
+module _ (n i v : ℕ) where
+  unfoldable pub bytes_left : Reading ℕ
+  bytes_left = bytes_from (n - i) v
+
+  pub bytes_start : i ≡ 0 → bytes_left ≡ bytes_from n v
+  unfolding bytes_left
+  bytes_start h = let k : n - i ≡ n = omega arith in rw k
+
+  pub bytes_end : n ≤ i → bytes_left ≡ give v
+  unfolding bytes_left bytes_from
+  bytes_end h = let k : n - i ≡ 0 = omega arith in rw k
+
+  unfoldable pub groups_left : Reading ℕ
+  groups_left = groups_from (n - i) v
+
+  pub groups_start : i ≡ 0 → groups_left ≡ groups_from n v
+  unfolding groups_left
+  groups_start h = let k : n - i ≡ n = omega arith in rw k
+
+  pub groups_end : n ≤ i → groups_left ≡ give v
+  unfolding groups_left groups_from
+  groups_end h = let k : n - i ≡ 0 = omega arith in rw k
+
+pub bytes_turn : (n i v : ℕ) → i < n → bytes_left n i v ≡ (field Open 8 >>= λ b. bytes_left n (i + 1) (256 * v + b))
+unfolding bytes_left bytes_from
+bytes_turn n i v h = let k : n - i ≡ suc (n - (i + 1)) = omega arith in rw k
+
+pub groups_turn : (n i v : ℕ) → i < n
+    → groups_left n i v
+    ≡ (field Open 1 >>= λ m. need (eqb m 0 || leb 1 (n - (i + 1))) 14 1
+    >> (field Open 8 >>= λ b. choose (eqb m 1) (groups_left n (i + 1) (256 * v + b)) (give (256 * v + b))))
+unfolding groups_left groups_from
+groups_turn n i v h = let k : n - i ≡ suc (n - (i + 1)) = omega arith in rw k
+
+pub ruleset byte_by_byte =
+    (fields, numbers_of_none, numbers_of_more, numbers_of_four, bytes_start, bytes_turn, bytes_end)
+
+pub ruleset group_by_group =
+    (fields, numbers_of_none, numbers_of_more, numbers_of_four, groups_start, groups_turn, groups_end)
 
 -- a byte more
 pub byte_more : (v b m : ℕ) → v < 2 ^ m → b < 2 ^ 8 → 256 * v + b < 2 ^ (m + 8)
 byte_more v b m h g = omega (arith, pow-add 2 m 8)
-
-module _ {n left v : ℕ} {s : List ℕ} {all : Reading ℕ} {c₀ : Cursor} {rest : Reading ℕ} {c : Cursor}
-    (h : Adding n left v s all c₀ rest c) (some : 0 < left) {b : ℕ} (byte : b < 2 ^ 8) where
-  pub more_small : 256 * v + b < 2 ^ (8 * (n - (left - 1)))
-  more_small =
-      let k : 8 * (n - (left - 1)) ≡ 8 * (n - left) + 8 = omega arith in
-      rw k (byte_more v b (8 * (n - left)) h.small byte)
-
-  pub more_fits : n ≤ 4 → 256 * v + b < 4294967296
-  more_fits g = omega (arith, more_small, pow_mono {i = 8 * (n - (left - 1))} {j = 32} (omega arith))
-
-two_leb : (n : ℕ) → leb 2 (suc n) ≡ leb 1 n
-two_leb n = go (leb 1 n) refl
-  where
-    go : (t : Bool) → leb 1 n ≡ t → leb 2 (suc n) ≡ t
-    go true e = le-leb 2 (suc n) (omega (arith, leb-true 1 n e))
-    go false e = lt-leb 2 (suc n) (omega (arith, leb-false 1 n e))
-
--- what is left of them before a turn, and behind the last
-pub bytes_more : (n v : ℕ) → 0 < n → bytes_from n v ≡ (field Open 8 >>= λ b. bytes_from (n - 1) (256 * v + b))
-unfolding bytes_from
-bytes_more zero v h = absurd (omega arith)
-bytes_more (suc n) v h = let p : suc n - 1 ≡ n = omega arith in rw p
-
-pub bytes_none : (n v : ℕ) → n ≡ 0 → bytes_from n v ≡ give v
-unfolding bytes_from
-bytes_none n v h = rw h
-
-pub groups_more : (n v : ℕ) → 0 < n
-    → groups_from n v
-    ≡ (field Open 1 >>= λ m. need (eqb m 0 || leb 2 n) 14 1
-    >> (field Open 8 >>= λ b. choose (eqb m 1) (groups_from (n - 1) (256 * v + b)) (give (256 * v + b))))
-unfolding groups_from
-groups_more zero v h = absurd (omega arith)
-groups_more (suc n) v h = let p : suc n - 1 ≡ n = omega arith in rw (p, two_leb n)
-
-pub groups_none : (n v : ℕ) → n ≡ 0 → groups_from n v ≡ give v
-unfolding groups_from
-groups_none n v h = rw h
 
 -- groups put one after the other
 pub groups_put : (k v : ℕ) → 0 < k
