@@ -10,7 +10,7 @@ use Rattle.kernel.specs.Reading.{Reading, give, refuse, refuse_after, field, pas
 use Rattle.kernel.specs.Reading.{passes, Outcome, gave, refused, stop, Fit, fits, short, fit, on_fit, run, after, Stands}
 use Rattle.kernel.specs.Reading.{refused_at}
 use Rattle.kernel.specs.declared.Window.TheVariants.{Open}
-use Rattle.kernel.specs.Answer.{answer, told}
+use Rattle.kernel.specs.Answer.{answer, told, reached}
 use Rattle.kernel.proofs.Run.{run_bind, run_few}
 use Rattle.kernel.proofs.Values.{value_lt}
 
@@ -90,6 +90,20 @@ module _ (s : List ℕ) (c : Cursor) where
   unfolding told run field
   told_refuse_after win w m b = on_fit_as (fit win (8 * length s) (c.at + w)) c.at c.fields _ _ _ refl
 
+-- what follows bits that were passed over
+abbrev pub past : {A : Type 0} → Result Cursor Refusal → (Cursor → Result (Read A) Refusal) → Result (Read A) Refusal
+past (Ok c) f = f c
+past (Err x) f = Err x
+
+pub told_passed : {A : Type 0} (s : List ℕ) (c : Cursor) (w : ℕ) (k : Reading A)
+    → told s (pass Open w >> k) c ≡ past (reached (told s (pass Open w) c)) (λ c'. told s k c')
+unfolding ◌>>◌
+told_passed s c w k = told_bind s c (pass Open w) (λ _. k) ∙ go (told s (pass Open w) c)
+  where
+    go : (r : Result (Read (Unit {0})) Refusal) → behind r (λ r. told s k r.next) ≡ past (reached r) (λ c'. told s k c')
+    go (Ok r) = refl
+    go (Err x) = refl
+
 -- the same answer, of which it shows that a reader may stand at its cursor
 abbrev pub standing : {A : Type 0} → List ℕ → Result (Read A) Refusal → Result (Read A) Refusal
 standing s (Ok r) =
@@ -111,6 +125,6 @@ told_stands {A} s m c h = go (run s m c.at c.fields) refl
         rw (e, g)
     go (refused x) q = refl
 
-pub ruleset steps = (told_bind, told_give, told_refuse, told_choose, told_need, told_here, told_stands, nat_tests)
+pub ruleset steps = (told_bind, told_give, told_refuse, told_choose, told_need, told_here, told_passed, told_stands, nat_tests)
 
 pub ruleset fields = (steps, told_field, told_refuse_after, value_lt)

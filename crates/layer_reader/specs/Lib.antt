@@ -1,3 +1,2 @@
--- What the readers of a layer tell, and what is claimed of their promise.
-pub mod Answer
+-- What is claimed of the promise of a layer's reader.
 pub mod Claims

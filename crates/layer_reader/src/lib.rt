@@ -2,149 +2,125 @@
 // before, and its frame length.
 #![tactic(auto)]
 
-ghost use Rattle.std.specs.Prelude.{eqb};
+ghost use Rattle.std.specs.Prelude.{◌≡◌, eqb};
 ghost use Rattle.kernel.specs.Reading.{choose, Stands};
-ghost use Rattle.kernel.specs.Promises.{Tells};
-ghost use Rattle.asc.specs.Answer.{told_configured};
+ghost use Rattle.kernel.specs.Answer.{told};
 ghost use Rattle.config.specs.Mux.{windowed, configuration, frame_length, sent_or_same, layer};
-ghost use Rattle.layer_reader.specs.Answer.{told_streamed};
 
-use asc::{Configured, ReadConfig, audio_specific_config, left_of};
-use kernel::{Cursor, Fetched, Reached, Refusal, Window, fetch, refused_at, skip, why};
+use asc::{audio_specific_config, left_of};
+use kernel::{Cursor, Read, Refusal, Window, fetch, refused_at, skip};
 use numbers::latm_get_value;
 use records::{Config, Stream};
 
-// A stream and the cursor behind it.
-#[derive(Clone, Copy)]
-pub struct ReadStream {
-    pub stream: Stream,
-    pub next: Cursor,
-}
-
-// A stream as it was read, or why it was not.
-#[derive(Clone, Copy)]
-pub enum Streamed {
-    Value(ReadStream),
-    Refused(Refusal),
-}
-
-fn windowed_of(el: &[u8], c: Cursor) -> Configured
-    requires { Stands el.now c.at c.fields }
-    ensures { Tells told_configured el.now windowed c.at c.fields result }
+#[tactic(auto, using(kernel::proofs::Steps::fields), unfolding(config::specs::Mux::windowed))]
+fn windowed_of(el: &[u8], c: Cursor) -> Result<Read<Config>, Refusal>
+    requires { Stands el.now c }
+    ensures { result ≡ told el.now windowed c }
 {
-    let length = latm_get_value(el, c);
-    let Fetched::Value(n, c1) = length else {
-        return Configured::Refused(why(length));
-    };
-    let end = c1.at + n as usize;
-    let configured = match audio_specific_config(el, Window::UpTo(end), c1) {
-        Configured::Value(r) => r,
-        Configured::Refused(x) => return Configured::Refused(x),
-    };
-    let c2 = configured.next;
-    let c3 = match skip(el, c2, left_of(Window::UpTo(end), c2.at)) {
-        Reached::To(c3) => c3,
-        Reached::Refused(x) => return Configured::Refused(x),
-    };
-    let config = configured.config;
-    Configured::Value(ReadConfig {
-        config: config,
-        next: c3,
+    let length = latm_get_value(el, c)?;
+    let win = Window::UpTo(length.next.at + length.value as usize);
+    let config = audio_specific_config(el, win, length.next)?;
+    let next = skip(el, config.next, left_of(win, config.next.at))?;
+    Ok(Read {
+        value: config.value,
+        next: next,
     })
 }
 
-fn configuration_of(el: &[u8], version: u32, c: Cursor) -> Configured
-    requires { Stands el.now c.at c.fields }
-    ensures { Tells told_configured el.now (configuration version) c.at c.fields result }
+#[tactic(auto, using(kernel::proofs::Steps::steps), unfolding(config::specs::Mux::configuration))]
+fn configuration_of(el: &[u8], version: u32, c: Cursor) -> Result<Read<Config>, Refusal>
+    requires { Stands el.now c }
+    ensures { result ≡ told el.now (configuration version) c }
 {
     if version == 1 {
-        return windowed_of(el, c);
+        windowed_of(el, c)
+    } else {
+        audio_specific_config(el, Window::Open, c)
     }
-    audio_specific_config(el, Window::Open, c)
 }
 
-fn frame_length(el: &[u8], c: Cursor, config: Config) -> Streamed
-    requires { Stands el.now c.at c.fields }
-    ensures { Tells told_streamed el.now (frame_length config) c.at c.fields result }
+#[tactic(auto, using(kernel::proofs::Steps::fields), unfolding(config::specs::Mux::frame_length))]
+fn frame_length(el: &[u8], c: Cursor, config: Config) -> Result<Read<Stream>, Refusal>
+    requires { Stands el.now c }
+    ensures { result ≡ told el.now (frame_length config) c }
 {
-    let place = c.at;
-    let three = fetch(el, Window::Open, c, 3);
-    let Fetched::Value(t, c1) = three else {
-        return Streamed::Refused(why(three));
-    };
-    match t {
+    let kind = fetch(el, Window::Open, c, 3)?;
+    match kind.value {
         0 => {
-            let eight = fetch(el, Window::Open, c1, 8);
-            let Fetched::Value(v, c2) = eight else {
-                return Streamed::Refused(why(eight));
-            };
-            Streamed::Value(ReadStream {
-                stream: Stream {
+            let fullness = fetch(el, Window::Open, kind.next, 8)?;
+            Ok(Read {
+                value: Stream {
                     config: config,
                     kind: 0,
-                    fullness: v,
+                    fullness: fullness.value,
                     fixed: 0,
                 },
-                next: c2,
+                next: fullness.next,
             })
         }
         1 => {
-            let nine = fetch(el, Window::Open, c1, 9);
-            let Fetched::Value(l, c2) = nine else {
-                return Streamed::Refused(why(nine));
-            };
-            Streamed::Value(ReadStream {
-                stream: Stream {
+            let fixed = fetch(el, Window::Open, kind.next, 9)?;
+            Ok(Read {
+                value: Stream {
                     config: config,
                     kind: 1,
                     fullness: 0,
-                    fixed: l,
+                    fixed: fixed.value,
                 },
-                next: c2,
+                next: fixed.next,
             })
         }
-        _ => Streamed::Refused(refused_at(13, place, c1)),
+        _ => Err(refused_at(13, c.at, kind.next)),
     }
 }
 
-fn sent_or_same(el: &[u8], version: u32, before: Config, c: Cursor) -> Configured
-    requires { Stands el.now c.at c.fields }
-    ensures { Tells told_configured el.now (sent_or_same version before) c.at c.fields result }
+#[tactic(auto, using(kernel::proofs::Steps::steps), unfolding(config::specs::Mux::sent_or_same))]
+fn sent_or_same(el: &[u8], version: u32, before: Config, c: Cursor) -> Result<Read<Config>, Refusal>
+    requires { Stands el.now c }
+    ensures { result ≡ told el.now (sent_or_same version before) c }
 {
-    let one = fetch(el, Window::Open, c, 1);
-    let Fetched::Value(same, c1) = one else {
-        return Configured::Refused(why(one));
-    };
-    if same == 1 {
-        return Configured::Value(ReadConfig {
-            config: before,
-            next: c1,
+    let same = fetch(el, Window::Open, c, 1)?;
+    if same.value == 1 {
+        return Ok(Read {
+            value: before,
+            next: same.next,
         });
     }
-    configuration_of(el, version, c1)
+    configuration_of(el, version, same.next)
 }
 
 // Stream 0 sends its configuration without a useSameConfig.
-fn layer_config(el: &[u8], version: u32, next: usize, before: Config, c: Cursor) -> Configured
-    requires { Stands el.now c.at c.fields }
-    ensures { Tells told_configured el.now
-        (choose (eqb next 0) (configuration version) (sent_or_same version before)) c.at c.fields result }
+#[tactic(auto, using(kernel::proofs::Steps::steps))]
+fn layer_config(
+    el: &[u8],
+    version: u32,
+    next: usize,
+    before: Config,
+    c: Cursor,
+) -> Result<Read<Config>, Refusal>
+    requires { Stands el.now c }
+    ensures { result ≡ told el.now
+        (choose (eqb next 0) (configuration version) (sent_or_same version before)) c }
 {
     if next == 0 {
-        return configuration_of(el, version, c);
+        configuration_of(el, version, c)
+    } else {
+        sent_or_same(el, version, before, c)
     }
-    sent_or_same(el, version, before, c)
 }
 
 // The layer that is stream `next`, after one configured so.
-pub fn layer_of(el: &[u8], version: u32, next: usize, before: Config, c: Cursor) -> Streamed
-    requires { Stands el.now c.at c.fields }
-    ensures { Tells told_streamed el.now (layer version next before) c.at c.fields result }
+#[tactic(auto, using(kernel::proofs::Steps::steps), unfolding(config::specs::Mux::layer))]
+pub fn layer_of(
+    el: &[u8],
+    version: u32,
+    next: usize,
+    before: Config,
+    c: Cursor,
+) -> Result<Read<Stream>, Refusal>
+    requires { Stands el.now c }
+    ensures { result ≡ told el.now (layer version next before) c }
 {
-    let configured = match layer_config(el, version, next, before, c) {
-        Configured::Value(r) => r,
-        Configured::Refused(x) => return Streamed::Refused(x),
-    };
-    let config = configured.config;
-    frame_length(el, configured.next, config)
+    let config = layer_config(el, version, next, before, c)?;
+    frame_length(el, config.next, config.value)
 }
