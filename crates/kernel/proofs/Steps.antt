@@ -1,5 +1,5 @@
 -- What a production comes to, step by step: each step is an equation of what is told.
-use Rattle.std.proofs.Common.{◌≡◌, refl, ap, sym, subst, ◌∙◌, ℕ, ◌+◌, ◌-◌, ◌*◌, ◌≤◌, ◌<◌, ◌^◌, Bool, true, false, cond, List, length, ltb, Result, Ok, Err, min, arith}
+use Rattle.std.proofs.Common.{◌≡◌, refl, ap, ◌∙◌, ℕ, ◌+◌, ◌-◌, ◌*◌, Bool, true, false, cond, List, length, ltb, Result, Ok, Err, min, arith}
 use Rattle.std.proofs.lemmas.Bool.Decides.{nat_tests}
 use Rattle.kernel.specs.declared.Window.{Window}
 use Rattle.kernel.specs.declared.Refusal.{Refusal}
@@ -7,7 +7,7 @@ use Rattle.kernel.specs.declared.Cursor.{Cursor}
 use Rattle.kernel.specs.declared.Read.{Read}
 use Rattle.kernel.specs.Bits.{value_at}
 use Rattle.kernel.specs.Reading.{Reading, give, refuse, refuse_after, field, pass, here, choose, need, ◌>>=◌, ◌>>◌}
-use Rattle.kernel.specs.Reading.{passes, Outcome, gave, refused, stop, Fit, fits, short, fit, on_fit, run, after, Stands}
+use Rattle.kernel.specs.Reading.{passes, Outcome, gave, refused, Fit, fits, short, fit, on_fit, run, after, Stands}
 use Rattle.kernel.specs.Reading.{refused_at}
 use Rattle.kernel.specs.declared.Window.TheVariants.{Open}
 use Rattle.kernel.specs.Answer.{answer, told, reached}

@@ -1,6 +1,7 @@
 -- What it is that a promise allows one result. What reads promises that its answer is what is `told`; what puts and lays
 -- promises by `Put` and `Stored`.
 use Rattle.std.specs.Prelude.{◌≡◌, List, ℕ, Result}
+use Rattle.kernel.specs.declared.BitWriter.{BitWriter}
 use Rattle.kernel.specs.declared.Cursor.{Cursor}
 use Rattle.kernel.specs.declared.Read.{Read}
 use Rattle.kernel.specs.declared.Refusal.{Refusal}
@@ -30,3 +31,9 @@ module _ {K : Type 0} {A R E : K → Type 0} (learnt : (k : K) → A k → R k �
   AllowsOneOfBytes lent =
       (k : K) (a : A k) (x y : R k) (e f : E k) → Bytes (lent k e) → Bytes (lent k f) → learnt k a x e
       → learnt k a y f → (x ≡ y) × (lent k e ≡ lent k f)
+
+  -- the same where it is the bits of a writer's bytes that are promised: one bit reached, and one content of its bytes
+  abbrev pub AllowsOneOfWriter : ((k : K) → E k → BitWriter) → Type 0
+  AllowsOneOfWriter lent =
+      (k : K) (a : A k) (x y : R k) (e f : E k) → Bytes (lent k e).out.now → Bytes (lent k f).out.now → learnt k a x e
+      → learnt k a y f → ((lent k e).at ≡ (lent k f).at) × ((lent k e).out.now ≡ (lent k f).out.now)
