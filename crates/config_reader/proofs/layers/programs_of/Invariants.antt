@@ -24,7 +24,8 @@ invariant-loop-p l =
 abbrev pub invariant-loop-l : goal.invariant-loop-l
 invariant-loop-l l =
     record {
-      whole : told l.el (layers_left l.version l.n (l.l-end + 1) l.l (l.p + 1) l.next l.places.layers l.places.streams) l.cur
+      whole : told l.el
+          (layers_left l.version l.n (l.l-end + 1) l.l (l.p + 1) l.next l.places.layers l.places.streams) l.cur
           ≡ told l.el (programs l.version (l.n + 1) 0 0 no_places) l.fn.c;
       stands : Stands l.el l.cur;
       layers : length l.places.layers ≡ 16;
