@@ -55,7 +55,7 @@ pub fn programs_of(
         places.layers[p] = k.value;
         cells[p] = row_from(next, k.value as usize + 1);
         cur = k.next;
-        for l in 0..=k.value {
+        for _ in 0..=k.value {
             let stream = layer_of(el, version, next, before, cur)?;
             places.streams[next] = stream.value;
             before = stream.value.config;
