@@ -1,5 +1,6 @@
 -- One turn of the loops over the programs and their layers: what is left to read, and the rows of the programs read.
-use Rattle.std.proofs.Common.{◌≡◌, refl, ap, ◌∙◌, ℕ, suc, ◌+◌, ◌-◌, ◌≤◌, ◌<◌, List, ◌++◌, length, get_or, set, drop, replicate, arith}
+use Rattle.std.proofs.Common.{◌≡◌, refl, ap, ◌∙◌, ℕ, suc, ◌+◌, ◌-◌, ◌≤◌, ◌<◌, arith}
+use Rattle.std.proofs.Common.{List, ◌++◌, length, set, drop, replicate}
 use Rattle.std.proofs.Math.Nat.{sub-zero}
 use Rattle.std.proofs.Math.ListN.{length-set}
 use Rattle.std.proofs.Math.Seq.{get_or-set_same}
@@ -94,4 +95,8 @@ module _ (ks : List ℕ) (last p : ℕ) where
   unfolding streams_in
   streams_none e = rw e
 
-pub ruleset program_by_program = (steps, programs_start, programs_turn, programs_end, layers_turn, layers_end, rows_start, rows_turn, rows_end, streams_none, streams_more, streams_end, before_start, before_turn, length-set)
+pub ruleset what_is_left = (programs_start, programs_turn, programs_end, layers_turn, layers_end, before_start, before_turn)
+
+pub ruleset the_table = (rows_start, rows_turn, rows_end, streams_none, streams_more, streams_end, length-set)
+
+pub ruleset program_by_program = (steps, what_is_left, the_table)

@@ -40,8 +40,7 @@ pub fn programs_of(
     ensures table { table.new ≡ table_after (λ g. table_of g.layers n) result table.old }
     ensures few { IfOk result (λ r. streams_in r.value.layers n 16 ≤ 16) }
 {
-    let none = [255; 8];
-    let mut cells = [none; 16];
+    let mut cells = [[255; 8]; 16];
     let blank = no_stream();
     let mut places = Places {
         layers: [0; 16],
@@ -56,7 +55,7 @@ pub fn programs_of(
         places.layers[p] = k.value;
         cells[p] = row_from(next, k.value as usize + 1);
         cur = k.next;
-        for l in 0..=k.value {
+        for _ in 0..=k.value {
             let stream = layer_of(el, version, next, before, cur)?;
             places.streams[next] = stream.value;
             before = stream.value.config;

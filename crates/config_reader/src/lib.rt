@@ -54,8 +54,7 @@ pub fn stream_mux_config(
 {
     let head = head_of(el, c)?;
     let version = head.value.version;
-    let none = [255; 8];
-    let mut cells = [none; 16];
+    let mut cells = [[255; 8]; 16];
     let places = programs_of(el, version, head.value.programs, head.next, &mut cells)?;
     let ending = ending_of(el, version, places.next)?;
     *table = cells;

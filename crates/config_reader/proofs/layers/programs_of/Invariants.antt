@@ -21,16 +21,17 @@ invariant-loop-p l =
       rows : l.cells ≡ rows_until l.places.layers l.n l.p;
     }
 
-abbrev pub invariant-loop-l : goal.invariant-loop-l
-invariant-loop-l l =
+abbrev pub invariant-loop : goal.invariant-loop
+invariant-loop l =
     record {
-      whole : told l.el (layers_left l.version l.n (l.l-end + 1) l.l (l.p + 1) l.next l.places.layers l.places.streams) l.cur
+      whole : told l.el
+          (layers_left l.version l.n (l.end + 1) l.counter (l.p + 1) l.next l.places.layers l.places.streams) l.cur
           ≡ told l.el (programs l.version (l.n + 1) 0 0 no_places) l.fn.c;
       stands : Stands l.el l.cur;
       layers : length l.places.layers ≡ 16;
       streams : length l.places.streams ≡ 16;
-      few : l.next + (l.l-end + 1 - l.l) ≤ 16;
+      few : l.next + (l.end + 1 - l.counter) ≤ 16;
       before : l.before ≡ config_before l.next l.places.streams;
-      counted : streams_in l.places.layers l.n (l.p + 1) ≡ l.next + (l.l-end + 1 - l.l);
+      counted : streams_in l.places.layers l.n (l.p + 1) ≡ l.next + (l.end + 1 - l.counter);
       rows : l.cells ≡ rows_until l.places.layers l.n (l.p + 1);
     }
