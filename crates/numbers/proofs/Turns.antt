@@ -1,6 +1,6 @@
 -- One turn of the productions that loop: what is left of n bytes or groups behind i of them.
 use mathlib.Core.Path.{◌≡◌, refl}
-use mathlib.Core.Bool.{Bool, true, false, ◌||◌}
+use mathlib.Core.Bool.{◌||◌}
 use mathlib.Core.List.{◌++◌}
 use Prim.Native.Nat.{ℕ, zero, suc, ◌+◌, ◌*◌, ◌-◌, ◌/◌, ◌^◌, ◌≤◌, ◌<◌}
 use native.Mathlib.Omega.{arith}
@@ -10,6 +10,7 @@ use Rattle.kernel.specs.declared.Window.TheVariants.{Open}
 use Rattle.kernel.specs.Bits.{bits_of}
 use Rattle.kernel.specs.Reading.{Reading, give, field, choose, need, ◌>>=◌, ◌>>◌}
 use Rattle.kernel.proofs.Steps.{fields}
+use Rattle.kernel.proofs.Puts.{puts}
 use Rattle.numbers.specs.Values.{bytes_from, groups_from, groups_after}
 
 -- one more than any number of i bytes
@@ -72,9 +73,15 @@ pub ruleset group_by_group =
 pub byte_more : (v b m : ℕ) → v < 2 ^ m → b < 2 ^ 8 → 256 * v + b < 2 ^ (m + 8)
 byte_more v b m h g = omega (arith, pow-add 2 m 8)
 
--- groups put one after the other
-pub groups_put : (k v : ℕ) → 0 < k
+-- groups put one after the other, and the last
+pub groups_more : (k v : ℕ) → 0 < k
     → groups_after k v ≡ bits_of 1 1 ++ (bits_of 8 (v / 2 ^ (8 * k)) ++ groups_after (k - 1) v)
 unfolding groups_after
-groups_put zero v h = absurd (omega arith)
-groups_put (suc k) v h = let e : suc k - 1 ≡ k = omega arith in rw e
+groups_more zero v h = absurd (omega arith)
+groups_more (suc k) v h = let e : suc k - 1 ≡ k = omega arith in rw e
+
+pub groups_last : (k v : ℕ) → k ≡ 0 → groups_after k v ≡ bits_of 1 0 ++ bits_of 8 v
+unfolding groups_after
+groups_last k v h = rw h
+
+pub ruleset groups_put = (puts, groups_more, groups_last)

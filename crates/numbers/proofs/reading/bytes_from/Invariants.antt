@@ -11,5 +11,5 @@ invariant-loop-i l =
     record {
       whole : told l.el (bytes_left l.n l.i l.number.value) l.number.next ≡ told l.el (bytes_from l.n 0) l.fn.c;
       stands : Stands l.el l.number.next;
-      small : l.number.value < numbers_of l.i
+      small : l.number.value < numbers_of l.i;
     }

@@ -11,5 +11,5 @@ invariant-loop-i l =
     record {
       whole : told l.el (groups_left 4 l.i l.number.value) l.number.next ≡ told l.el (groups_from 4 0) l.fn.c;
       stands : Stands l.el l.number.next;
-      small : l.number.value < numbers_of l.i
+      small : l.number.value < numbers_of l.i;
     }
