@@ -1,5 +1,6 @@
 -- The row of a stream: what the probe shows of it.
-use Rattle.std.specs.Prelude.{Bool, false, cond, ◌&&◌, List, [], ◌∷◌, ℕ, get_or, ℤ, pos, negsuc, ltb, eqb, Option, Some, None}
+use Rattle.std.specs.Prelude.{Bool, false, cond, ◌&&◌, List, [], ◌∷◌, ℕ, get_or, ℤ, pos, negsuc, ltb, eqb}
+use Rattle.std.specs.Prelude.{Option, Some, None}
 use Rattle.records.specs.declared.Freq.{Freq}
 use Rattle.records.specs.declared.Freq.TheVariants.{Index, Hz}
 use Rattle.records.specs.declared.Form.{Form}
