@@ -1,5 +1,4 @@
 -- The laws that the proofs of this crate cite, and the theorems.
-pub mod Beside
 pub mod Turns
 pub mod Theorems
 pub mod Contracts

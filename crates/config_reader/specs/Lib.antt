@@ -1,4 +1,3 @@
--- What the readers of StreamMuxConfig tell, promise, and what is claimed of their promises.
+-- What the readers of StreamMuxConfig leave of a table lent to them, and what is claimed of their promises.
 pub mod Answer
-pub mod Promises
 pub mod Claims

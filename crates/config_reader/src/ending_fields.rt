@@ -1,20 +1,17 @@
 // Other data and checksum, as the configuration announces them.
-ghost use Rattle.std.specs.Prelude.{eqb};
-ghost use Rattle.kernel.specs.Reading.{choose, give, field, Stands};
-ghost use Rattle.kernel.specs.Answer.{told_fetched};
-ghost use Rattle.kernel.specs.Promises.{Tells};
-ghost use Rattle.kernel.specs.declared.Window.TheVariants.{Open};
+ghost use Rattle.std.specs.Prelude.{◌≡◌};
+ghost use Rattle.kernel.specs.Reading.{Stands};
+ghost use Rattle.kernel.specs.Answer.{told};
 ghost use Rattle.config.specs.Mux.{other_length, mux_ending};
-ghost use Rattle.config_reader.specs.Answer.{told_ended};
 
-use crate::{Ended, ReadEnding};
 use config::Ending;
-use kernel::{Cursor, Fetched, Window, fetch, why};
+use kernel::{Cursor, Read, Refusal, Window, fetch};
 use numbers::{groups_of, latm_get_value};
 
-fn other_length(el: &[u8], version: u32, c: Cursor) -> Fetched
-    requires { Stands el.now c.at c.fields }
-    ensures { Tells told_fetched el.now (other_length version) c.at c.fields result }
+#[tactic(auto, using(kernel::proofs::Steps::steps), unfolding(config::specs::Mux::other_length))]
+fn other_length(el: &[u8], version: u32, c: Cursor) -> Result<Read<u32>, Refusal>
+    requires { Stands el.now c }
+    ensures { result ≡ told el.now (other_length version) c }
 {
     if version == 1 {
         return latm_get_value(el, c);
@@ -22,56 +19,37 @@ fn other_length(el: &[u8], version: u32, c: Cursor) -> Fetched
     groups_of(el, c)
 }
 
-fn other_if(el: &[u8], version: u32, other: u32, c: Cursor) -> Fetched
-    requires { Stands el.now c.at c.fields }
-    ensures { Tells told_fetched el.now (choose (eqb other 1) (other_length version) (give 0)) c.at
-        c.fields result }
-{
-    if other == 1 {
-        return other_length(el, version, c);
-    }
-    Fetched::Value(0, c)
-}
-
-fn crc_if(el: &[u8], checked: u32, c: Cursor) -> Fetched
-    requires { Stands el.now c.at c.fields }
-    ensures { Tells told_fetched el.now (choose (eqb checked 1) (field Open 8) (give 0)) c.at
-        c.fields result }
-{
-    if checked == 1 {
-        return fetch(el, Window::Open, c, 8);
-    }
-    Fetched::Value(0, c)
-}
-
 // From otherDataPresent on.
-pub fn ending_of(el: &[u8], version: u32, c: Cursor) -> Ended
-    requires { Stands el.now c.at c.fields }
-    ensures { Tells told_ended el.now (mux_ending version) c.at c.fields result }
+#[tactic(auto, using(kernel::proofs::Steps::steps), unfolding(config::specs::Mux::mux_ending))]
+pub fn ending_of(el: &[u8], version: u32, c: Cursor) -> Result<Read<Ending>, Refusal>
+    requires { Stands el.now c }
+    ensures { result ≡ told el.now (mux_ending version) c }
 {
-    let a = fetch(el, Window::Open, c, 1);
-    let Fetched::Value(other, c1) = a else {
-        return Ended::Refused(why(a));
+    let other = fetch(el, Window::Open, c, 1)?;
+    let bits = if other.value == 1 {
+        other_length(el, version, other.next)?
+    } else {
+        Read {
+            value: 0,
+            next: other.next,
+        }
     };
-    let b = other_if(el, version, other, c1);
-    let Fetched::Value(bits, c2) = b else {
-        return Ended::Refused(why(b));
+    let checked = fetch(el, Window::Open, bits.next, 1)?;
+    let crc = if checked.value == 1 {
+        fetch(el, Window::Open, checked.next, 8)?
+    } else {
+        Read {
+            value: 0,
+            next: checked.next,
+        }
     };
-    let d = fetch(el, Window::Open, c2, 1);
-    let Fetched::Value(checked, c3) = d else {
-        return Ended::Refused(why(d));
-    };
-    let e = crc_if(el, checked, c3);
-    let Fetched::Value(crc, c4) = e else {
-        return Ended::Refused(why(e));
-    };
-    Ended::Value(ReadEnding {
-        ending: Ending {
-            other: other,
-            bits: bits,
-            checked: checked,
-            crc: crc,
+    Ok(Read {
+        value: Ending {
+            other: other.value,
+            bits: bits.value,
+            checked: checked.value,
+            crc: crc.value,
         },
-        next: c4,
+        next: crc.next,
     })
 }

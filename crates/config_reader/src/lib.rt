@@ -5,77 +5,25 @@ mod ending_fields;
 mod head_fields;
 mod layers;
 
-ghost use Rattle.std.specs.Prelude.{◌≡◌};
+ghost use Rattle.std.specs.Prelude.{◌≡◌, IfOk};
 ghost use Rattle.kernel.specs.Reading.{Stands};
-ghost use Rattle.records.specs.Blank.{no_record};
-ghost use Rattle.kernel.specs.declared.Reached.TheVariants.{Refused};
-ghost use Rattle.config.specs.Mux.{record_of};
-ghost use Rattle.config_reader.specs.Answer.{IfReached, Few};
-ghost use Rattle.config_reader.specs.Promises.{MuxPromise};
+ghost use Rattle.kernel.specs.Answer.{told};
+ghost use Rattle.records.specs.Table.{table_of};
+ghost use Rattle.config.specs.Mux.{record_of, stream_mux_config};
+ghost use Rattle.config_reader.specs.Answer.{table_after, Few};
 
-use config::{Ending, Head};
+use config::{Ending, Head, Places};
 use ending_fields::ending_of;
 use head_fields::head_of;
-use kernel::{Cursor, Reached, Refusal};
+use kernel::{Cursor, Read, Refusal};
 use layers::programs_of;
-use records::{Record, Stream, no_record};
+use records::Record;
 
-// The values up to numProgram and the cursor behind them.
-#[derive(Clone, Copy)]
-pub struct ReadHead {
-    pub head: Head,
-    pub next: Cursor,
-}
-
-// These as they were read, or why they were not.
-#[derive(Clone, Copy)]
-pub enum Headed {
-    Value(ReadHead),
-    Refused(Refusal),
-}
-
-// The values from otherDataPresent on and the cursor behind them.
-#[derive(Clone, Copy)]
-pub struct ReadEnding {
-    pub ending: Ending,
-    pub next: Cursor,
-}
-
-// These as they were read, or why they were not.
-#[derive(Clone, Copy)]
-pub enum Ended {
-    Value(ReadEnding),
-    Refused(Refusal),
-}
-
-// What was reached, beside numLayer of each program and the streams: an enum cannot hold an array.
-#[derive(Clone, Copy)]
-pub struct Placed {
-    pub reached: Reached,
-    pub layers: [u32; 16],
-    pub streams: [Stream; 16],
-}
-
-// What was reached, beside the record of a whole StreamMuxConfig.
-#[derive(Clone, Copy)]
-pub struct Mux {
-    pub reached: Reached,
-    pub config: Record,
-}
-
-fn refused_mux(x: Refusal) -> Mux
-    ensures { (result.reached ≡ Refused x) × (result.config ≡ no_record) }
+fn record_of(h: Head, g: Places, t: Ending) -> Record
+    ensures { result ≡ record_of h g t }
 {
-    let blank = no_record();
-    Mux {
-        reached: Reached::Refused(x),
-        config: blank,
-    }
-}
-
-fn record_of(h: Head, layers: [u32; 16], streams: [Stream; 16], t: Ending) -> Record
-    ensures { result ≡ record_of h (record { layers = layers; streams = streams }) t }
-{
+    let layers = g.layers;
+    let streams = g.streams;
     Record {
         version: h.version,
         subversion: h.subversion,
@@ -93,37 +41,25 @@ fn record_of(h: Head, layers: [u32; 16], streams: [Stream; 16], t: Ending) -> Re
 }
 
 // A whole StreamMuxConfig, and the table of its streams; a refusal leaves the table lent as it stood.
-pub fn stream_mux_config(el: &[u8], c: Cursor, table: &mut [[u8; 8]; 16]) -> Mux
-    requires { Stands el.now c.at c.fields }
-    ensures told { MuxPromise el.now c.at c.fields table.old result
-        table.new }
-    ensures few { IfReached result.reached (Few result.config) }
+#[tactic(auto, using(kernel::proofs::Steps::steps), unfolding(config::specs::Mux::stream_mux_config))]
+pub fn stream_mux_config(
+    el: &[u8],
+    c: Cursor,
+    table: &mut [[u8; 8]; 16],
+) -> Result<Read<Record>, Refusal>
+    requires { Stands el.now c }
+    ensures told { result ≡ told el.now stream_mux_config c }
+    ensures table { table.new ≡ table_after (λ r. table_of r.layers r.programs) result table.old }
+    ensures few { IfOk result (λ r. Few r.value) }
 {
-    let headed = match head_of(el, c) {
-        Headed::Value(r) => r,
-        Headed::Refused(x) => return refused_mux(x),
-    };
-    let head = headed.head;
-    let none = [255; 8];
-    let mut cells = [none; 16];
-    let placed = programs_of(el, head.version, head.programs, headed.next, &mut cells);
-    let reached = placed.reached;
-    let c2 = match reached {
-        Reached::To(c2) => c2,
-        Reached::Refused(x) => return refused_mux(x),
-    };
-    let ended = match ending_of(el, head.version, c2) {
-        Ended::Value(r) => r,
-        Ended::Refused(x) => return refused_mux(x),
-    };
-    let ending = ended.ending;
-    let layers = placed.layers;
-    let streams = placed.streams;
-    let config = record_of(head, layers, streams, ending);
-    let next = ended.next;
+    let head = head_of(el, c)?;
+    let version = head.value.version;
+    let mut cells = [[255; 8]; 16];
+    let places = programs_of(el, version, head.value.programs, head.next, &mut cells)?;
+    let ending = ending_of(el, version, places.next)?;
     *table = cells;
-    Mux {
-        reached: Reached::To(next),
-        config: config,
-    }
+    Ok(Read {
+        value: record_of(head.value, places.value, ending.value),
+        next: ending.next,
+    })
 }

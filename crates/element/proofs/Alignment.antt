@@ -8,9 +8,9 @@ use lib.Dec.{eqb}
 use Rattle.kernel.specs.Element.{Item, Element, done, follow, accepted, walk, read}
 use Rattle.records.specs.declared.Record.{Record}
 use Rattle.config.specs.Mux.{stream_mux_config}
-use Rattle.element.specs.declared.Held.{Held}
+use Rattle.element.specs.Held.{Held, config_held, usable}
 use Rattle.element.specs.Mux.{kind_u, kind_c, Applied, subframes, other_data, byte_alignment, streams_of, slots_of}
-use Rattle.element.specs.Mux.{body, applied, usable, use_same_stream_mux, after_flag, audio_mux_element, rest}
+use Rattle.element.specs.Mux.{body, applied, use_same_stream_mux, after_flag, audio_mux_element, rest}
 use Rattle.element.specs.Claims.{EndsShort}
 use Rattle.kernel.proofs.Came.{Came, gave_any, came_any, came_so, came_over, came_part, came_follow, came_read}
 
@@ -62,6 +62,6 @@ module _ (s : List ℕ) where
   element_ends_short held a its n =
       came_read s (λ _ js. EndsShort js) (audio_mux_element held) a its n
       (came_part s _ (λ _. Unit {0}) kind_u (use_same_stream_mux (usable held))
-      (λ u. after_flag (eqb u 1) held.config) 0 0 (gave_any _)
+      (λ u. after_flag (eqb u 1) (config_held held)) 0 0 (gave_any _)
       (λ u at' n' _. came_so _ (λ b js q. ends_behind (_ ∷ []) js q)
-      (after_ends (eqb u 1) held.config at' n')))
+      (after_ends (eqb u 1) (config_held held) at' n')))

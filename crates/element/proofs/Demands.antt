@@ -2,6 +2,7 @@
 use mathlib.Core.Path.{◌≡◌, refl, ap, sym, ◌∙◌}
 use mathlib.Core.Bool.{Bool, true, false, cond}
 use mathlib.Core.List.{List, ◌++◌}
+use Rattle.std.proofs.Common.{Some, Err}
 use Prim.Native.Nat.{ℕ, ◌+◌, ◌*◌, ◌≤◌, ◌<◌}
 use native.Mathlib.Omega.{arith}
 use lib.ListN.{length, drop}
@@ -10,8 +11,9 @@ use Rattle.kernel.specs.Bits.{bit_at}
 use Rattle.kernel.specs.Reading.{Stop}
 use Rattle.kernel.specs.Element.{Item, Answer, accepted, rejected, items_of, InClosed, sum_passed}
 use Rattle.records.specs.Table.{table_of}
-use Rattle.element.specs.declared.Held.{Held}
-use Rattle.element.specs.declared.Verdict.TheVariants.{Accepted, Refused}
+use Rattle.element.specs.Held.{Held, config_held, usable}
+use Rattle.element.specs.declared.Accepted.{Accepted}
+use Rattle.element.specs.Reply.{accepts}
 use Rattle.element.specs.Mux.{Applied}
 use Rattle.element.specs.Reply.{answer, numbers, verdict_of, held_after, map_after, table_after}
 use Rattle.element.specs.Left.{shown, Left, left_by}
@@ -34,15 +36,17 @@ record Shows (x : Answer Applied) (map : List ℕ) (k n : ℕ) (sent : Bool) : T
   shows : shown k (map_after map x) ≡ items
 
 shows : (x : Answer Applied) (map : List ℕ) (k n : ℕ) (sent : Bool) → EachByKind (items_of x)
-    → verdict_of x ≡ Accepted k n sent → Shows x map k n sent
+    → verdict_of x ≡ accepts k n sent → Shows x map k n sent
 shows (accepted a its m) map k n sent h e =
-    let p : length its ≡ k = cc in
-    let q : m ≡ n = cc in
+    let v : ◌≡◌ {A = Accepted} (record { items = length its; fields = m; sent = a.sent })
+        (record { items = k; fields = n; sent = sent }) = cc in
+    let p : length its ≡ k = ap (λ (x : Accepted). x.items) v in
+    let q : m ≡ n = ap (λ (x : Accepted). x.fields) v in
     record {
       applies = a;
       items = its;
       is = ap (accepted a its) q;
-      sends = cc;
+      sends = ap (λ (x : Accepted). x.sent) v;
       shows = ap
           (λ (j : ℕ). shown j (numbers its ++ drop (4 * length its) map)) (sym p)
           ∙ shown_numbers its (drop (4 * length its) map) h;
@@ -56,7 +60,7 @@ record Stops (x : Answer Applied) (z : Refusal) : Type 0 where
   is : x ≡ rejected stop passed
   tells : stop.refusal ≡ z
 
-stops : (x : Answer Applied) (z : Refusal) → verdict_of x ≡ Refused z → Stops x z
+stops : (x : Answer Applied) (z : Refusal) → verdict_of x ≡ Err z → Stops x z
 stops (accepted a its m) z e = absurd (let y : ◌≡◌ {A = ℕ} 0 1 = cc in omega arith)
 stops (rejected r its) z e = record { stop = r; passed = its; is = refl; tells = cc }
 
@@ -69,9 +73,9 @@ read_is_left s held map table r map' p = p
 module _ (s : List ℕ) (held : Held) (map : List ℕ) (table : List (List ℕ)) where
   -- all as it stood, beside a refusal
   abbrev stood : Refusal → Left
-  stood x = record { reply = record { verdict = Refused x; held = held }; map = map; table = table }
+  stood x = record { reply = record { verdict = Err x; held = held }; map = map; table = table }
 
-  at_hand : (k n : ℕ) (sent : Bool) → verdict_of (answer s held (length map)) ≡ Accepted k n sent
+  at_hand : (k n : ℕ) (sent : Bool) → verdict_of (answer s held (length map)) ≡ accepts k n sent
       → Shows (answer s held (length map)) map k n sent
   at_hand k n sent e = shows (answer s held (length map)) map k n sent (content_by_kind s held (length map)) e
 
@@ -90,7 +94,7 @@ module _ (s : List ℕ) (held : Held) (map : List ℕ) (table : List (List ℕ))
       let h = at_hand k n sent e in rw h.shows (rw h.is at (count_is_bounded s held (length map)))
 
   -- the answer itself is the same
-  pub same_answer : (k n : ℕ) (sent : Bool) → verdict_of (answer s held (length map)) ≡ Accepted k n sent
+  pub same_answer : (k n : ℕ) (sent : Bool) → verdict_of (answer s held (length map)) ≡ accepts k n sent
       → (t : List ℕ) → length t ≡ length s
       → ((i : ℕ) → i < 8 * length s → ¬ InClosed (shown k (map_after map (answer s held (length map)))) i
       → bit_at t i ≡ bit_at s i)
@@ -106,12 +110,12 @@ module _ (s : List ℕ) (held : Held) (map : List ℕ) (table : List (List ℕ))
   same_left_refused r its e t long same =
       ap (left_by held map table) (same_when_refused s held (length map) r its e t long same ∙ sym e)
 
-  now_held : (k n : ℕ) → verdict_of (answer s held (length map)) ≡ Accepted k n true
+  now_held : (k n : ℕ) → verdict_of (answer s held (length map)) ≡ accepts k n true
       → (h : Shows (answer s held (length map)) map k n true)
-      → held_after held (answer s held (length map)) ≡ record { present = true; config = h.applies.config }
+      → held_after held (answer s held (length map)) ≡ Some h.applies.config
   now_held k n e h =
       ap (held_after held) h.is ∙ ap
-      (λ (t : Bool). cond t (record { present = true; config = h.applies.config }) held) h.sends
+      (λ (t : Bool). cond t (Some h.applies.config) held) h.sends
 
   now_table : (k n : ℕ) (h : Shows (answer s held (length map)) map k n true)
       → table_after table (answer s held (length map))
@@ -131,7 +135,7 @@ module _ (s : List ℕ) (held : Held) (map : List ℕ) (table : List (List ℕ))
       let h = at_hand k n false e in (
         (held_applies s held (length map) _ _ _ h.is h.sends).1,
         ap (held_after held) h.is ∙ ap
-            (λ (t : Bool). cond t (record { present = true; config = h.applies.config }) held) h.sends,
+            (λ (t : Bool). cond t (Some h.applies.config) held) h.sends,
         ap (table_after table) h.is
             ∙ ap (λ (t : Bool). cond t (table_of h.applies.config.layers h.applies.config.programs) table)
             h.sends,

@@ -9,4 +9,3 @@ pub mod Streams
 pub mod Productions
 pub mod Theorems
 pub mod Demands
-pub mod Contracts

@@ -11,10 +11,10 @@ use Rattle.kernel.specs.Element.{Passing, Item, Element, done, over, follow, acc
 use Rattle.kernel.proofs.Theorems.{bind_runs_as_parts}
 use Rattle.records.specs.declared.Record.{Record}
 use Rattle.config.specs.Mux.{stream_mux_config}
-use Rattle.element.specs.declared.Held.{Held}
+use Rattle.element.specs.Held.{Held, config_held, usable}
 use Rattle.element.specs.Mux.{kind_u, kind_c, kind_l, kind_p, kind_o, kind_a, Applied, payload_length_info, payload_mux}
 use Rattle.element.specs.Mux.{subframe, subframes, other_data, byte_alignment, streams_of, slots_of, body, applied}
-use Rattle.element.specs.Mux.{usable, use_same_stream_mux, after_flag, audio_mux_element, rest}
+use Rattle.element.specs.Mux.{use_same_stream_mux, after_flag, audio_mux_element, rest}
 use Rattle.element.specs.Claims.{marks, payload_marks, subframe_marks, body_marks, config_marks, order_of}
 use Rattle.kernel.proofs.Came.{Gave, Came, gave_any, gave_after, came_so, came_over, came_part, came_follow, came_read}
 
@@ -126,6 +126,6 @@ module _ (s : List ℕ) where
   element_in_order held a its n =
       came_read s (λ b js. marks js ≡ order_of b) (audio_mux_element held) a its n
       (came_part s _ (λ _. Unit {0}) kind_u (use_same_stream_mux (usable held))
-      (λ u. after_flag (eqb u 1) held.config) 0 0 (gave_any _)
+      (λ u. after_flag (eqb u 1) (config_held held)) 0 0 (gave_any _)
       (λ u at' n' _. came_so _ (λ b js q. ap (λ (y : List ℕ). kind_u ∷ 0 ∷ y) q)
-      (after_marks (eqb u 1) held.config at' n')))
+      (after_marks (eqb u 1) (config_held held) at' n')))

@@ -23,10 +23,10 @@ use Rattle.asc.proofs.Given.{Numbered}
 use Rattle.records.specs.declared.Stream.{Stream}
 use Rattle.records.specs.declared.Record.{Record}
 use Rattle.config.proofs.Given.{ReadOk, mux}
-use Rattle.element.specs.declared.Held.{Held}
+use Rattle.element.specs.Held.{Held, config_held, usable}
 use Rattle.element.specs.Mux.{kind_u, Applied, slot_from, mux_slot_length_bytes, slot_of, streams_of, slots_of}
 use Rattle.element.specs.Mux.{payload_length_info, payload_mux, subframe, subframes, other_data, byte_alignment, rest}
-use Rattle.element.specs.Mux.{applied, usable, use_same_stream_mux, after_flag, audio_mux_element}
+use Rattle.element.specs.Mux.{applied, use_same_stream_mux, after_flag, audio_mux_element}
 use Rattle.element.specs.Left.{content_of}
 use Rattle.element.specs.Reply.{answer}
 
@@ -88,7 +88,7 @@ the_rest n ss t w =
 -- where a configuration is sent: as it is read. Where none is: the one held, which is usable
 abbrev pub Applies : Held → Bool → Record → Type 0
 Applies held true r = ReadOk r
-Applies held false r = (r ≡ held.config) × (usable held ≡ true)
+Applies held false r = (r ≡ (config_held held)) × (usable held ≡ true)
 
 abbrev pub AppliedOk : Held → Applied → Type 0
 AppliedOk held a = Applies held a.sent a.config
@@ -99,7 +99,7 @@ is_applied held a h =
     keeps_follow Numbered OfKind Any (AppliedOk held) _ _ (the_rest _ (streams_of a.config) _ _) (λ _ _. h)
 
 after_flag_law : (held : Held) (t : Bool) → (t ≡ true → usable held ≡ true)
-    → Produces (AppliedOk held) (after_flag t held.config)
+    → Produces (AppliedOk held) (after_flag t (config_held held))
 unfolding KeepsAll after_flag
 after_flag_law held true h = is_applied held _ (refl, h refl)
 after_flag_law held false h = (
@@ -151,12 +151,12 @@ pub walked : (s : List ℕ) (held : Held)
 unfolding audio_mux_element Each
 walked s held =
     by_part s 0 0 (PassageKept (Refuses s held) OfKind (AppliedOk held)) kind_u (use_same_stream_mux (usable held))
-    (λ u. after_flag (eqb u 1) held.config)
+    (λ u. after_flag (eqb u 1) (config_held held))
     (λ u at n q.
-    let x : Passage Applied = walk s (after_flag (eqb u 1) held.config) at n in
+    let x : Passage Applied = walk s (after_flag (eqb u 1) (config_held held)) at n in
     kept_item (Refuses s held) OfKind (AppliedOk held) (part_item kind_u 0 at) x refl
     (kept_so Numbered (Refuses s held) OfKind (AppliedOk held) x (behind_flag s held)
-    (walk_keeps Numbered OfKind (AppliedOk held) refl refl s (after_flag (eqb u 1) held.config) at n
+    (walk_keeps Numbered OfKind (AppliedOk held) refl refl s (after_flag (eqb u 1) (config_held held)) at n
     (after_flag_law held (eqb u 1) (rw q at (flag s held))))))
     (λ r q. (rw q at (flag s held), tt))
 

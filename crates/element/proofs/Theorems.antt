@@ -3,11 +3,13 @@
 use mathlib.Core.Path.{◌≡◌, refl, ap, sym, ◌∙◌}
 use mathlib.Core.Bool.{Bool, true, false, cond, ◌||◌}
 use mathlib.Core.List.{List, []}
+use Rattle.std.proofs.Common.{Some, None}
 use Prim.Native.Nat.{ℕ, ◌+◌, ◌*◌, ◌≤◌}
 use native.Mathlib.Omega.{arith}
 use lib.Dec.{eqb, ltb}
 use lib.ListN.{length}
 use borrow.Author.Tests.{eqb-false, ltb-false, le-ltb, ne_eqb}
+use Rattle.std.specs.Option.{option_or}
 use Rattle.kernel.specs.Bits.{bit_at, value_at}
 use Rattle.kernel.specs.declared.Window.TheVariants.{Open}
 use Rattle.kernel.specs.Reading.{◌>>=◌, ◌>>◌, field, need, stop, gave, Fit, fits, short, fit, on_fit, run, Stop, give}
@@ -19,11 +21,10 @@ use Rattle.kernel.proofs.Values.{value_one}
 use Rattle.kernel.proofs.Tests.{both, neither}
 use Rattle.kernel.proofs.Kept.{AnswerKept}
 use Rattle.records.specs.declared.Record.{Record}
-use Rattle.records.specs.Blank.{no_record}
 use Rattle.records.specs.Valid.{valid_of}
 use Rattle.config.proofs.Given.{ReadOk}
-use Rattle.element.specs.declared.Held.{Held}
-use Rattle.element.specs.Mux.{kind_u, Applied, use_same_stream_mux, after_flag, audio_mux_element, usable}
+use Rattle.element.specs.Held.{Held, config_held, usable}
+use Rattle.element.specs.Mux.{kind_u, Applied, use_same_stream_mux, after_flag, audio_mux_element}
 use Rattle.element.specs.Mux.{mux_slot_length_bytes, slot_of}
 use Rattle.element.specs.Reply.{answer, held_after, reply_of}
 use Rattle.element.specs.Claims.{AcceptedFits, ItemsTile, EachBitInOneItem, WidthsAddUp, EachByKind, MapInOrder}
@@ -54,9 +55,7 @@ pub held_is_told : HeldIsTold
 held_is_told held (rejected r its) = refl
 held_is_told held (accepted a its n) = go a.sent
   where
-    go : (t : Bool)
-        → cond {A = Held} t (record { present = true; config = cond t a.config no_record }) held
-        ≡ cond {A = Held} t (record { present = true; config = a.config }) held
+    go : (t : Bool) → option_or (cond {A = Held} t (Some a.config) None) held ≡ cond t (Some a.config) held
     go true = refl
     go false = refl
 
@@ -131,7 +130,7 @@ unheld s held l e u = let v : value_at s 0 1 ≡ 1 = rw value_one e in rw (v, u,
 
 -- what can be used is held on, or another that was sent
 stays_if : (held : Held) (t : Bool) (r : Record) → usable held ≡ true → Applies held t r
-    → usable (cond t (record { present = true; config = r }) held) ≡ true
+    → usable (cond t (Some r) held) ≡ true
 stays_if held true r u h = h.valid
 stays_if held false r u h = u
 
@@ -143,11 +142,12 @@ stays held (rejected r its) R u h = u
 -- sent or held, what applies is valid
 is_valid : (held : Held) (t : Bool) (r : Record) → Applies held t r → valid_of r ≡ true
 is_valid held true r h = h.valid
-is_valid held false r h = rw h.0 (both held.present (valid_of held.config) h.1).1
+is_valid (Some g) false r h = rw h.0 h.1
+is_valid None false r h = let z : false ≡ true = h.1 in cc
 
 -- a valid record that was sent can be used
 now_held : (held : Held) (t : Bool) (r : Record) → t ≡ true → valid_of r ≡ true
-    → usable (cond t (record { present = true; config = r }) held) ≡ true
+    → usable (cond t (Some r) held) ≡ true
 now_held held true r e h = h
 now_held held false r e h = let z : false ≡ true = e in cc
 

@@ -1,6 +1,7 @@
 -- What is claimed of an element, of what its reading answers. proofs/Theorems.antt has the theorem of each; the demands
 -- follow in Demands.
 use Rattle.std.specs.Prelude.{◌≡◌, true, false, cond, List, [], ◌∷◌, ◌++◌, ℕ, zero, suc, ◌+◌, ◌*◌, ◌≤◌, ◌<◌, eqb, length}
+use Rattle.std.specs.Option.{option_or}
 use Rattle.kernel.specs.Bits.{bit_at, value_at}
 use Rattle.kernel.specs.Reading.{Stop, stop, Outcome, gave, refused, run, after}
 use Rattle.kernel.specs.Element.{Item, Answer, accepted, rejected, items_of, count_of, place_of, Tiles, OneItem}
@@ -8,11 +9,11 @@ use Rattle.kernel.specs.Element.{InClosed, sum_widths, sum_passed}
 use Rattle.records.specs.declared.Record.{Record}
 use Rattle.records.specs.Table.{streams_in}
 use Rattle.records.specs.Valid.{valid_of}
-use Rattle.element.specs.declared.Held.{Held}
-use Rattle.element.specs.Mux.{kind_u, kind_c, kind_l, kind_p, kind_o, kind_a, Applied, streams_of, usable}
+use Rattle.element.specs.Held.{Held, config_held, usable}
+use Rattle.element.specs.Mux.{kind_u, kind_c, kind_l, kind_p, kind_o, kind_a, Applied, streams_of}
 use Rattle.element.specs.Mux.{mux_slot_length_bytes, slot_of}
 use Rattle.element.specs.declared.Reply.{Reply}
-use Rattle.element.specs.Reply.{answer, verdict_of, held_after, sent_by, held_by, reply_of}
+use Rattle.element.specs.Reply.{answer, held_after, sent_by, reply_of}
 use Rattle.element.specs.Left.{content_of}
 use Rattle.element.specs.Promises.{ReadPromise, ReadWithPromise}
 
@@ -95,9 +96,9 @@ StreamsAreAll =
     (r : Record) → valid_of r ≡ true → length r.streams ≡ 16
     → length (streams_of r) ≡ streams_in r.layers r.programs (r.programs + 1)
 
--- what is then held, the verdict and the configuration sent tell
+-- what is then held is the configuration that was sent, or else what was held
 abbrev pub HeldIsTold : Type 0
-HeldIsTold = (held : Held) (x : Answer Applied) → held_by held (verdict_of x) (sent_by x) ≡ held_after held x
+HeldIsTold = (held : Held) (x : Answer Applied) → option_or (sent_by x) held ≡ held_after held x
 
 module _ (s : List ℕ) (held : Held) (room : ℕ) where
   -- an element is accepted only with room for 1,092 items, and of 1 to 8,191 bytes
@@ -199,7 +200,7 @@ module _ (s : List ℕ) (held : Held) (room : ℕ) where
   -- where none was sent, the held one applied, and 16 does not refuse it either
   abbrev pub HeldApplies : Type 0
   HeldApplies = (a : Applied) (its : List Item) (n : ℕ) → answer s held room ≡ accepted a its n
-      → a.sent ≡ false → (a.config ≡ held.config) × (usable held ≡ true)
+      → a.sent ≡ false → (a.config ≡ (config_held held)) × (usable held ≡ true)
 
   -- so behind an accepted element that sent a configuration none is refused by 4, whatever it is and whatever its map,
   abbrev pub NextIsNot4 : Type 0

@@ -1,16 +1,15 @@
 -- The demands, of what `read_with` leaves behind: the reply, what is held, the final map and the final table.
 -- proofs/Demands.antt has the theorem of each.
-use Rattle.std.specs.Prelude.{◌≡◌, Bool, true, false, List, ℕ, ◌+◌, ◌*◌, ◌≤◌, ◌<◌, length}
+use Rattle.std.specs.Prelude.{◌≡◌, Bool, true, false, is_some, Err, List, ℕ, ◌+◌, ◌*◌, ◌≤◌, ◌<◌, length}
 use Rattle.kernel.specs.declared.Refusal.{Refusal}
 use Rattle.kernel.specs.Bits.{bit_at}
 use Rattle.kernel.specs.Reading.{Stop}
 use Rattle.kernel.specs.Element.{Item, rejected, Tiles, OneItem, InClosed, sum_passed}
 use Rattle.records.specs.Table.{table_of}
 use Rattle.records.specs.Valid.{valid_of}
-use Rattle.element.specs.declared.Held.{Held}
-use Rattle.element.specs.declared.Verdict.TheVariants.{Accepted, Refused}
+use Rattle.element.specs.Held.{Held, config_held, usable}
+use Rattle.element.specs.Reply.{accepts}
 use Rattle.element.specs.declared.Reply.{Reply}
-use Rattle.element.specs.Mux.{usable}
 use Rattle.element.specs.Reply.{answer}
 use Rattle.element.specs.Left.{shown, Left, left_of}
 use Rattle.element.specs.Promises.{ReadPromise, ReadWithPromise}
@@ -36,30 +35,30 @@ module _ (s : List ℕ) (held : Held) (map : List ℕ) (table : List (List ℕ))
   -- only an element of 1 to 8,191 bytes is accepted, into a map of 4,368 numbers or more
   abbrev pub AcceptedFits : Type 0
   AcceptedFits =
-      (k n : ℕ) (sent : Bool) → left.reply.verdict ≡ Accepted k n sent
+      (k n : ℕ) (sent : Bool) → left.reply.verdict ≡ accepts k n sent
       → (4368 ≤ length map) × (1 ≤ length s) × (length s ≤ 8191)
 
   -- accepted with k items: the map shows them one after the other over all bits of the element,
   abbrev pub ShownTile : Type 0
   ShownTile =
-      (k n : ℕ) (sent : Bool) → left.reply.verdict ≡ Accepted k n sent → Tiles 0 (shown k left.map) (8 * length s)
+      (k n : ℕ) (sent : Bool) → left.reply.verdict ≡ accepts k n sent → Tiles 0 (shown k left.map) (8 * length s)
 
   -- each bit lies in exactly one of them,
   abbrev pub ShownOnce : Type 0
   ShownOnce =
-      (k n : ℕ) (sent : Bool) → left.reply.verdict ≡ Accepted k n sent → (i : ℕ) → i < 8 * length s
+      (k n : ℕ) (sent : Bool) → left.reply.verdict ≡ accepts k n sent → (i : ℕ) → i < 8 * length s
       → OneItem (shown k left.map) i
 
   -- and the count is never above the bits outside payload, other data and alignment
   abbrev pub ShownCount : Type 0
   ShownCount =
-      (k n : ℕ) (sent : Bool) → left.reply.verdict ≡ Accepted k n sent
+      (k n : ℕ) (sent : Bool) → left.reply.verdict ≡ accepts k n sent
       → n + sum_passed (shown k left.map) ≤ 8 * length s
 
   -- an element of the same length that agrees outside the payload and other data that the map shows leaves the same
   -- behind
   abbrev pub SameLeft : Type 0
-  SameLeft = (k n : ℕ) (sent : Bool) → left.reply.verdict ≡ Accepted k n sent
+  SameLeft = (k n : ℕ) (sent : Bool) → left.reply.verdict ≡ accepts k n sent
       → (t : List ℕ) → length t ≡ length s
       → ((i : ℕ) → i < 8 * length s → ¬ InClosed (shown k left.map) i → bit_at t i ≡ bit_at s i)
       → left_of t held map table ≡ left
@@ -74,14 +73,14 @@ module _ (s : List ℕ) (held : Held) (map : List ℕ) (table : List (List ℕ))
 
   -- where a configuration was sent, one that 16 does not refuse is held from then on, and the table is its own;
   abbrev pub SentIsHeld : Type 0
-  SentIsHeld = (k n : ℕ) → left.reply.verdict ≡ Accepted k n true
-      → (left.reply.held.present ≡ true) × (valid_of left.reply.held.config ≡ true)
-      × (left.table ≡ table_of left.reply.held.config.layers left.reply.held.config.programs)
+  SentIsHeld = (k n : ℕ) → left.reply.verdict ≡ accepts k n true
+      → (is_some left.reply.held ≡ true) × (valid_of (config_held left.reply.held) ≡ true)
+      × (left.table ≡ table_of (config_held left.reply.held).layers (config_held left.reply.held).programs)
 
   -- where none was sent, what was held could be used and is held on, and the table is as it stood;
   abbrev pub HeldStays : Type 0
   HeldStays =
-      (k n : ℕ) → left.reply.verdict ≡ Accepted k n false
+      (k n : ℕ) → left.reply.verdict ≡ accepts k n false
       → (usable held ≡ true) × (left.reply.held ≡ held) × (left.table ≡ table)
 
   -- accepted or refused, what can be used is held on;
@@ -90,9 +89,9 @@ module _ (s : List ℕ) (held : Held) (map : List ℕ) (table : List (List ℕ))
 
   -- so the element after one that sent a configuration, and each behind it, is not refused by 4
   abbrev pub NextIsNot4 : Type 0
-  NextIsNot4 = (k n : ℕ) → left.reply.verdict ≡ Accepted k n true
+  NextIsNot4 = (k n : ℕ) → left.reply.verdict ≡ accepts k n true
       → (t more : List ℕ) (rows : List (List ℕ)) (x : Refusal)
-      → (left_of t left.reply.held more rows).reply.verdict ≡ Refused x → ¬ (x.number ≡ 4)
+      → (left_of t left.reply.held more rows).reply.verdict ≡ Err x → ¬ (x.number ≡ 4)
 
   -- the count of a refused element is never above the bits outside what was passed over before the stop
   abbrev pub RefusedCount : Type 0
@@ -103,6 +102,6 @@ module _ (s : List ℕ) (held : Held) (map : List ℕ) (table : List (List ℕ))
   -- a refusal is one of the table's, at a bit of the element or behind its last, with no more fields than bits; and it
   -- changes nothing
   abbrev pub RefusedLeft : Type 0
-  RefusedLeft = (x : Refusal) → left.reply.verdict ≡ Refused x
+  RefusedLeft = (x : Refusal) → left.reply.verdict ≡ Err x
       → (1 ≤ x.number) × (x.number ≤ 15) × (x.place ≤ 8 * length s) × (x.fields ≤ 8 * length s)
-      × (left ≡ record { reply = record { verdict = Refused x; held = held }; map = map; table = table })
+      × (left ≡ record { reply = record { verdict = Err x; held = held }; map = map; table = table })

@@ -6,9 +6,8 @@ use Rattle.kernel.specs.Element.{Element, done, part, over, spot, follow, Passin
 use Rattle.records.specs.declared.Stream.{Stream}
 use Rattle.records.specs.declared.Record.{Record}
 use Rattle.records.specs.Table.{streams_in}
-use Rattle.records.specs.Valid.{valid_of}
 use Rattle.config.specs.Mux.{stream_mux_config}
-use Rattle.element.specs.declared.Held.{Held}
+use Rattle.element.specs.Held.{Held, config_held, usable}
 
 -- ---- the kinds of items
 
@@ -110,10 +109,6 @@ body r = rest (r.subframes + 1) (slots_of (streams_of r)) (eqb r.other 1) r.bits
 unfoldable pub applied : Applied → Element Applied
 applied a = follow (body a.config) λ _. done a
 
--- a held record that 16 refuses counts as nothing held
-abbrev pub usable : Held → Bool
-usable h = h.present && valid_of h.config
-
 -- useSameStreamMux, which may be 1 where one is held
 unfoldable pub use_same_stream_mux : Bool → Reading ℕ
 use_same_stream_mux held = do
@@ -132,4 +127,4 @@ after_flag false held = sent_element
 
 -- AudioMuxElement(1)
 unfoldable pub audio_mux_element : Held → Element Applied
-audio_mux_element h = part ℕ kind_u (use_same_stream_mux (usable h)) λ u. after_flag (eqb u 1) h.config
+audio_mux_element h = part ℕ kind_u (use_same_stream_mux (usable h)) λ u. after_flag (eqb u 1) (config_held h)

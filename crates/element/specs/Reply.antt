@@ -1,20 +1,14 @@
 -- What a reading of an element replies: refusals 1 and 2 first, then those of the fields; what is then held; and every
 -- number of the map lent.
-use Rattle.std.specs.Prelude.{true, false, cond, ◌||◌, List, [], ◌∷◌, ◌++◌, ℕ, ◌*◌, eqb, ltb, length, drop}
+use Rattle.std.specs.Prelude.{Bool, Some, None, Result, Ok, Err, cond, ◌||◌, List, [], ◌∷◌, ◌++◌, ℕ, ◌*◌, eqb, ltb, length, drop}
+use Rattle.kernel.specs.declared.Refusal.{Refusal}
 use Rattle.kernel.specs.Reading.{stop}
 use Rattle.kernel.specs.Element.{Item, Answer, accepted, rejected, read}
-use Rattle.records.specs.declared.Record.{Record}
-use Rattle.records.specs.Blank.{no_record}
 use Rattle.records.specs.Table.{table_of}
-use Rattle.element.specs.declared.Held.{Held}
-use Rattle.element.specs.declared.Verdict.{Verdict}
-use Rattle.element.specs.declared.Verdict.TheVariants.{Accepted, Refused}
+use Rattle.element.specs.Held.{Held}
+use Rattle.element.specs.declared.Accepted.{Accepted}
 use Rattle.element.specs.declared.Reply.{Reply}
 use Rattle.element.specs.Mux.{Applied, audio_mux_element}
-
--- before a configuration was sent
-abbrev pub nothing_held : Held
-nothing_held = record { present = false; config = no_record }
 
 -- of an element s, with room for so many numbers in the map
 unfoldable pub answer : List ℕ → Held → ℕ → Answer Applied
@@ -28,25 +22,24 @@ unfoldable pub numbers : List Item → List ℕ
 numbers [] = []
 numbers (it ∷ its) = it.kind ∷ it.stream ∷ it.first ∷ it.width ∷ numbers its
 
+-- accepted with k items and n fields
+abbrev pub accepts : ℕ → ℕ → Bool → Result Accepted Refusal
+accepts k n sent = Ok (record { items = k; fields = n; sent = sent })
+
 -- what an answer is in the words of code: the items by their number alone
-abbrev pub verdict_of : Answer Applied → Verdict
-verdict_of (accepted a its n) = Accepted (length its) n a.sent
-verdict_of (rejected r its) = Refused r.refusal
+abbrev pub verdict_of : Answer Applied → Result Accepted Refusal
+verdict_of (accepted a its n) = accepts (length its) n a.sent
+verdict_of (rejected r its) = Err r.refusal
+
+-- the configuration that an accepted element sent
+abbrev pub sent_by : Answer Applied → Held
+sent_by (accepted a its n) = cond a.sent (Some a.config) None
+sent_by (rejected r its) = None
 
 -- an accepted configuration is held from then on; a refusal changes nothing
 abbrev pub held_after : Held → Answer Applied → Held
-held_after held (accepted a its n) = cond a.sent (record { present = true; config = a.config }) held
+held_after held (accepted a its n) = cond a.sent (Some a.config) held
 held_after held (rejected r its) = held
-
--- the configuration that an accepted element sent, or the blank one
-abbrev pub sent_by : Answer Applied → Record
-sent_by (accepted a its n) = cond a.sent a.config no_record
-sent_by (rejected r its) = no_record
-
--- what is held afterwards, by the verdict and the configuration sent
-abbrev pub held_by : Held → Verdict → Record → Held
-held_by held (Accepted k n sent) r = cond sent (record { present = true; config = r }) held
-held_by held (Refused x) r = held
 
 -- the verdict on an element and what is then held, by its answer
 abbrev pub reply_with : Held → Answer Applied → Reply

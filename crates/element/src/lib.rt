@@ -1,58 +1,20 @@
-// One AudioMuxElement: what is held, and what a reading replies.
+// One AudioMuxElement: what a reading replies.
 #![tactic(auto)]
 
-ghost use Rattle.std.specs.Prelude.{◌≡◌};
-ghost use Rattle.element.specs.Reply.{nothing_held, held_by};
-
 use kernel::Refusal;
-use records::{Record, no_record};
+use records::Record;
 
-// The configuration held, if any.
+// An accepted element: how many items and fields it has, and whether it sent a configuration.
 #[derive(Clone, Copy)]
-pub struct Held {
-    pub present: bool,
-    pub config: Record,
+pub struct Accepted {
+    pub items: u32,
+    pub fields: u32,
+    pub sent: bool,
 }
 
-// Accepted with so many items and fields, and whether a configuration was sent; or refused.
-#[derive(Clone, Copy)]
-pub enum Verdict {
-    Accepted(u32, u32, bool),
-    Refused(Refusal),
-}
-
-// The verdict, and what is then held.
+// The verdict on an element, and the configuration that is then held, if any.
 #[derive(Clone, Copy)]
 pub struct Reply {
-    pub verdict: Verdict,
-    pub held: Held,
-}
-
-// What is held before a configuration was sent.
-pub fn nothing_held() -> Held
-    ensures { result ≡ nothing_held }
-{
-    let blank = no_record();
-    Held {
-        present: false,
-        config: blank,
-    }
-}
-
-// What is held behind an element, by the verdict on it and the configuration that it sent.
-pub fn held_by(held: Held, v: Verdict, sent: Record) -> Held
-    ensures { result ≡ held_by held v sent }
-{
-    match v {
-        Verdict::Accepted(_, _, new) => {
-            if new {
-                return Held {
-                    present: true,
-                    config: sent,
-                };
-            }
-            held
-        }
-        Verdict::Refused(_) => held,
-    }
+    pub verdict: Result<Accepted, Refusal>,
+    pub held: Option<Record>,
 }

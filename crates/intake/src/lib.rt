@@ -15,7 +15,8 @@ pub fn read_full<R: Read>(input: &mut R, buf: &mut [u8]) -> io::Result<usize>
     ensures end { IfOk result (λ n. n < length buf.new → IsAtEnd (R.remaining input.new)) }
     ensures err { OnErr result ((k : ℕ) × Consumes (R.remaining input.old) (R.remaining input.new) (take k buf.new)) }
 {
-    let mut done: usize = 0;
+    let mut done = 0;
+    // A read takes as many bytes as it likes, and std's `read_exact` does not tell how many stand there at the end.
     while done < buf.len() {
         let n = input.read(&mut buf[done..])?;
         if n == 0 {

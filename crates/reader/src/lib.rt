@@ -1,70 +1,62 @@
 // One AudioMuxElement, read whole into a map.
 #![tactic(auto)]
 
-ghost use Rattle.std.specs.Prelude.{◌≡◌, true, ◌&&◌, ◌++◌, map, ◌-◌, ◌≤◌, length, take, replicate};
+ghost use Rattle.std.specs.Prelude.{◌≡◌, true, ◌≤◌, length};
 ghost use Rattle.kernel.specs.Reading.{Stands};
 ghost use Rattle.kernel.specs.Element.{read};
 ghost use Rattle.records.specs.Valid.{valid_of};
 ghost use Rattle.element.specs.Mux.{audio_mux_element};
+ghost use Rattle.element.specs.Reply.{answer};
 ghost use Rattle.element.specs.Promises.{ReadPromise, ReadWithPromise};
-ghost use Rattle.reader.specs.Parts.{fixed_bits, fixed_of, Fixable, plan_of, sent_of};
-ghost use Rattle.reader.specs.Prepared.{no_plan, prepared_of, OfHeld, unsent, sends_of, needed_of};
-ghost use Rattle.reader.specs.Promises.{Leaves, LeavesBy, PreparedPromise};
+ghost use Rattle.reader.specs.Parts.{fixed_bits, Fixable, slots_of, plan_of, sent_of};
+ghost use Rattle.reader.specs.Prepared.{prepared_of, OfHeld, sends_of, needed_of};
+ghost use Rattle.reader.specs.Promises.{Takes, TakesBy, PreparedPromise};
 
 use config_reader::stream_mux_config;
-use element::{Held, Reply, Verdict, held_by, nothing_held};
-use kernel::{Cursor, Fetched, Reached, Window, fetch, refused_at, unread, why};
-use records::{Record, Stream, no_record, streams_in, valid};
+use element::{Accepted, Reply};
+use kernel::{Cursor, Refusal, Window, fetch, refused_at, unread};
+use records::{Record, Stream, streams_in, valid};
 use walk::{Plan, finish};
 
-// What readings need of what is held: whether it can be used, and its plan, or else one of nothing.
+// A configuration that was sent, and what walks need of it.
 #[derive(Clone, Copy)]
-pub struct Prepared {
-    pub usable: bool,
+pub struct Sent {
+    pub config: Record,
     pub plan: Plan,
 }
 
-// The verdict, the configuration that was sent where it was accepted, or else the blank one, and what is then held,
-// prepared.
+// An accepted element, and the configuration that it sent, if it did.
+#[derive(Clone, Copy)]
+pub struct Taken {
+    pub accepted: Accepted,
+    pub sent: Option<Sent>,
+}
+
+// The verdict, the configuration that an accepted element sent, and what is then held, prepared.
 #[derive(Clone, Copy)]
 pub struct PreparedReply {
-    pub verdict: Verdict,
-    pub sent: Record,
-    pub prepared: Prepared,
+    pub verdict: Result<Accepted, Refusal>,
+    pub sent: Option<Record>,
+    pub prepared: Option<Plan>,
 }
 
-// A held record that is not valid counts as nothing held.
-fn usable_held(present: bool, config: Record) -> bool
-    ensures { result ≡ present && valid_of config }
-{
-    if present {
-        return valid(config);
-    }
-    false
-}
-
-// The bits of a stream's slots where they are fixed, by its frameLengthType and frameLength; else 0.
-fn fixed_bits(kind: u32, fixed: u32) -> u32
+// The bits of a stream's slots where they are fixed, by its frameLengthType and frameLength.
+fn fixed_bits(kind: u32, fixed: u32) -> Option<u32>
     requires { fixed ≤ 511 }
     ensures { result ≡ fixed_bits kind fixed }
 {
-    if kind == 0 {
-        return 0;
-    }
-    8 * (fixed + 20)
+    if kind == 0 { None } else { Some(8 * (fixed + 20)) }
 }
 
-// Those of n streams; zeros stand where there is none.
-fn slots_of(streams: [Stream; 16], n: usize) -> [u32; 16]
-    requires { (n ≤ 16) × Fixable streams n }
-    ensures { result ≡ map fixed_of (take n streams) ++ replicate (16 - n) 0 }
+// Those of some streams.
+#[tactic(auto, using(crate::proofs::Plans::filling))]
+fn slots_of(streams: &[Stream]) -> [Option<u32>; 16]
+    requires { (length streams.now ≤ 16) × Fixable streams.now }
+    ensures { result ≡ slots_of streams.now }
 {
-    let mut slots: [u32; 16] = [0; 16];
-    let mut i: usize = 0;
-    while i < n {
-        let s = streams[i];
+    let mut slots = [None; 16];
+    for (i, s) in streams.iter().enumerate() {
         slots[i] = fixed_bits(s.kind, s.fixed);
-        i += 1;
     }
     slots
 }
@@ -74,133 +66,103 @@ fn plan_of(r: Record) -> Plan
     requires { valid_of r ≡ true }
     ensures { result ≡ plan_of r }
 {
-    let layers = r.layers;
-    let streams = r.streams;
-    let n = streams_in(layers, r.programs);
-    let slots = slots_of(streams, n);
+    let n = streams_in(r.layers, r.programs);
+    let other = if r.other == 1 { Some(r.bits) } else { None };
     Plan {
-        slots: slots,
+        slots: slots_of(&r.streams[..n]),
         streams: n,
         subframes: r.subframes + 1,
-        other: r.other == 1,
-        bits: r.bits,
+        other: other,
     }
 }
 
-fn no_plan() -> Plan
-    ensures { result ≡ no_plan }
-{
-    Plan {
-        slots: [0; 16],
-        streams: 0,
-        subframes: 0,
-        other: false,
-        bits: 0,
-    }
-}
-
-// What is held, prepared for readings.
-pub fn prepare(held: Held) -> Prepared
+// What is held, prepared for readings: a record that is not valid counts as nothing held.
+#[tactic(auto, unfolding(crate::specs::Prepared::prepared_of))]
+pub fn prepare(held: Option<Record>) -> Option<Plan>
     ensures { result ≡ prepared_of held }
 {
-    if usable_held(held.present, held.config) {
-        let plan = plan_of(held.config);
-        return Prepared {
-            usable: true,
-            plan: plan,
-        };
-    }
-    let plan = no_plan();
-    Prepared {
-        usable: false,
-        plan: plan,
+    match held {
+        Some(r) => {
+            if valid(r) { Some(plan_of(r)) } else { None }
+        }
+        None => None,
     }
 }
 
-// Where no configuration was sent and accepted: what was prepared stays.
-fn unsent(v: Verdict, prepared: Prepared) -> PreparedReply
-    ensures { result ≡ unsent v prepared }
-{
-    let blank = no_record();
-    PreparedReply {
-        verdict: v,
-        sent: blank,
-        prepared: prepared,
-    }
-}
-
-// Behind useSameStreamMux 0. An accepted configuration is held from then on, and the caller gets its table.
+// Behind useSameStreamMux 0. The caller gets the table of an accepted configuration.
 fn with_sent(
     el: &[u8],
-    prepared: Prepared,
     c: Cursor,
     map: &mut [u32],
     table: &mut [[u8; 8]; 16],
-) -> PreparedReply
-    requires { (4368 ≤ length map.old) × (c.at ≡ 1) × Stands el.now c.at c.fields }
-    ensures { Leaves prepared (sent_of el.now c.at c.fields)
-        map.old table.old result map.new table.new }
+) -> Result<Taken, Refusal>
+    requires { (4368 ≤ length map.old) × (c.at ≡ 1) × Stands el.now c }
+    ensures { Takes (sent_of el.now c) map.old table.old result map.new table.new }
 {
-    let none = [255; 8];
-    let mut filled = [none; 16];
-    let mux = stream_mux_config(el, c, &mut filled);
-    let reached = mux.reached;
-    let c1 = match reached {
-        Reached::To(to) => to,
-        Reached::Refused(x) => return unsent(Verdict::Refused(x), prepared),
-    };
-    let r = mux.config;
-    let plan = plan_of(r);
-    let verdict = finish(el, plan, true, c1, map);
-    match verdict {
-        Verdict::Accepted(_, _, _) => {
-            *table = filled;
-            PreparedReply {
-                verdict: verdict,
-                sent: r,
-                prepared: Prepared {
-                    usable: true,
-                    plan: plan,
-                },
-            }
-        }
-        Verdict::Refused(_) => unsent(verdict, prepared),
-    }
+    let mut filled = [[255; 8]; 16];
+    let config = stream_mux_config(el, c, &mut filled)?;
+    let plan = plan_of(config.value);
+    let accepted = finish(el, plan, true, config.next, map)?;
+    *table = filled;
+    Ok(Taken {
+        accepted: accepted,
+        sent: Some(Sent {
+            config: config.value,
+            plan: plan,
+        }),
+    })
 }
 
 // An element of a length that can be, into a map with room for every item.
 fn element_of(
     el: &[u8],
-    prepared: Prepared,
+    prepared: Option<Plan>,
     map: &mut [u32],
     table: &mut [[u8; 8]; 16],
-) -> PreparedReply
+) -> Result<Taken, Refusal>
     requires { (4368 ≤ length map.old) × (length el.now ≤ 8191) × OfHeld prepared }
-    ensures { LeavesBy prepared (λ held. read el.now (audio_mux_element held))
+    ensures { TakesBy prepared (λ held. read el.now (audio_mux_element held))
         map.old table.old result map.new table.new }
 {
-    let flag = fetch(el, Window::Open, Cursor { at: 0, fields: 0 }, 1);
-    let Fetched::Value(u, c) = flag else {
-        let x = why(flag);
-        return unsent(Verdict::Refused(x), prepared);
+    let flag = fetch(el, Window::Open, Cursor { at: 0, fields: 0 }, 1)?;
+    if flag.value == 0 {
+        return with_sent(el, flag.next, map, table);
+    }
+    let Some(plan) = prepared else {
+        return Err(refused_at(4, 0, flag.next));
     };
-    if u == 0 {
-        return with_sent(el, prepared, c, map, table);
+    let accepted = finish(el, plan, false, flag.next, map)?;
+    Ok(Taken {
+        accepted: accepted,
+        sent: None,
+    })
+}
+
+// Refusals 1 and 2, or the element.
+fn sized_of(
+    el: &[u8],
+    prepared: Option<Plan>,
+    map: &mut [u32],
+    table: &mut [[u8; 8]; 16],
+) -> Result<Taken, Refusal>
+    requires { OfHeld prepared }
+    ensures { TakesBy prepared (λ held. answer el.now held (length map.old))
+        map.old table.old result map.new table.new }
+{
+    if map.len() < 4368 {
+        return Err(unread(1));
     }
-    if prepared.usable {
-        let plan = prepared.plan;
-        let verdict = finish(el, plan, false, c, map);
-        return unsent(verdict, prepared);
+    if el.len() == 0 || el.len() > 8191 {
+        return Err(unread(2));
     }
-    let x = refused_at(4, 0, c);
-    unsent(Verdict::Refused(x), prepared)
+    element_of(el, prepared, map, table)
 }
 
 // One element, by what was prepared of the configuration held before it; its items are stored into the map lent, four
 // numbers each, and the streams of an accepted configuration into the table lent.
 pub fn read_prepared(
     el: &[u8],
-    prepared: Prepared,
+    prepared: Option<Plan>,
     map: &mut [u32],
     table: &mut [[u8; 8]; 16],
 ) -> PreparedReply
@@ -208,17 +170,25 @@ pub fn read_prepared(
     ensures { PreparedPromise el.now prepared map.old table.old
         result map.new table.new }
 {
-    if map.len() < 4368 {
-        return unsent(Verdict::Refused(unread(1)), prepared);
+    match sized_of(el, prepared, map, table) {
+        Ok(taken) => match taken.sent {
+            Some(sent) => PreparedReply {
+                verdict: Ok(taken.accepted),
+                sent: Some(sent.config),
+                prepared: Some(sent.plan),
+            },
+            None => PreparedReply {
+                verdict: Ok(taken.accepted),
+                sent: None,
+                prepared: prepared,
+            },
+        },
+        Err(x) => PreparedReply {
+            verdict: Err(x),
+            sent: None,
+            prepared: prepared,
+        },
     }
-    let length = el.len();
-    if length == 0 {
-        return unsent(Verdict::Refused(unread(2)), prepared);
-    }
-    if length > 8191 {
-        return unsent(Verdict::Refused(unread(2)), prepared);
-    }
-    element_of(el, prepared, map, table)
 }
 
 // Whether an element sends a configuration; of no byte at all it does not matter.
@@ -232,37 +202,34 @@ fn sends(el: &[u8]) -> bool
 }
 
 // What the reading of this element needs of what is held: nothing, where it sends a configuration.
-fn prepare_for(el: &[u8], held: Held) -> Prepared
+fn prepare_for(el: &[u8], held: Option<Record>) -> Option<Plan>
     ensures { result ≡ prepared_of (needed_of el.now held) }
 {
-    if sends(el) {
-        let none = nothing_held();
-        return prepare(none);
-    }
-    prepare(held)
+    if sends(el) { None } else { prepare(held) }
 }
 
 // The same with the configuration itself, any record at all.
-pub fn read_with(el: &[u8], held: Held, map: &mut [u32], table: &mut [[u8; 8]; 16]) -> Reply
+pub fn read_with(
+    el: &[u8],
+    held: Option<Record>,
+    map: &mut [u32],
+    table: &mut [[u8; 8]; 16],
+) -> Reply
     ensures { ReadWithPromise el.now held map.old table.old
         result map.new table.new }
 {
     let prepared = prepare_for(el, held);
     let reply = read_prepared(el, prepared, map, table);
-    let verdict = reply.verdict;
-    let sent = reply.sent;
-    let after = held_by(held, verdict, sent);
     Reply {
-        verdict: verdict,
-        held: after,
+        verdict: reply.verdict,
+        held: reply.sent.or(held),
     }
 }
 
 // The same, for callers without rows to show.
-pub fn read(el: &[u8], held: Held, map: &mut [u32]) -> Reply
+pub fn read(el: &[u8], held: Option<Record>, map: &mut [u32]) -> Reply
     ensures { ReadPromise el.now held map.old result map.new }
 {
-    let none = [255; 8];
-    let mut table = [none; 16];
+    let mut table = [[255; 8]; 16];
     read_with(el, held, map, &mut table)
 }

@@ -1,3 +1,5 @@
+pub mod Places
+pub mod Derived
 pub mod Equal
 pub mod Tables
 pub mod Apart

@@ -13,7 +13,7 @@ pub use same::{same_config, same_record};
 pub use table::{row_from, streams_in, table_of};
 
 // A frequency: an index 0 to 12, or 24 bits of Hz.
-#[derive(Clone, Copy)]
+#[derive(Clone, Copy, PartialEq, Eq)]
 pub enum Freq {
     Index(u32),
     Hz(u32),
@@ -21,7 +21,7 @@ pub enum Freq {
 
 // How SBR and PS are signalled: not at all; by type 5 or 29 in front; after 0x2B7 with flag 0, with flag 1, or with
 // flag 1 and a PS flag.
-#[derive(Clone, Copy)]
+#[derive(Clone, Copy, PartialEq, Eq)]
 pub enum Form {
     None,
     Type5(Freq),
@@ -32,7 +32,7 @@ pub enum Form {
 }
 
 // An AudioSpecificConfig with its GASpecificConfig.
-#[derive(Clone, Copy)]
+#[derive(Clone, Copy, PartialEq, Eq)]
 pub struct Config {
     pub core: u32, // audioObjectType 1 to 4, alone or under type 5 or 29
     pub freq: Freq, // samplingFrequency
@@ -44,7 +44,7 @@ pub struct Config {
 }
 
 // One layer: its configuration and its frame length.
-#[derive(Clone, Copy)]
+#[derive(Clone, Copy, PartialEq, Eq)]
 pub struct Stream {
     pub config: Config,
     pub kind: u32, // frameLengthType
@@ -53,7 +53,7 @@ pub struct Stream {
 }
 
 // A whole StreamMuxConfig.
-#[derive(Clone, Copy)]
+#[derive(Clone, Copy, PartialEq, Eq)]
 pub struct Record {
     pub version: u32, // audioMuxVersion
     pub subversion: u32, // audioMuxVersionA

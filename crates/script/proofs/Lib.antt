@@ -1,4 +1,3 @@
 -- Laws that the proofs of several functions share.
-pub mod Sevens
 pub mod Taken
 pub mod Contracts

@@ -2,10 +2,12 @@
 use Rattle.std.proofs.Common.{Option, List, ℕ, ◌++◌}
 use Rattle.std.specs.Io.KnownBytes.{Consumes}
 use Rattle.std.proofs.KnownBytes.{Consumes-trans}
+use Rattle.script.specs.Taken.{Taken}
 
--- some bytes were taken, and no more is known of them
-abbrev pub Taken : Option (List ℕ) → Option (List ℕ) → Type 0
-Taken before after = (s : List ℕ) × Consumes before after s
+pub taken_on : {a b c : Option (List ℕ)} → Taken a b → Taken b c → Taken a c
+taken_on p q = record { bytes = p.bytes ++ q.bytes; gone = Consumes-trans _ _ _ p.bytes q.bytes p.gone q.gone }
 
-pub taken_on : (a b c : Option (List ℕ)) → Taken a b → Taken b c → Taken a c
-taken_on a b c p q = (p.0 ++ q.0, Consumes-trans a b c p.0 q.0 p.1 q.1)
+pub taken_then : {a b c : Option (List ℕ)} (s : List ℕ) → Taken a b → Consumes b c s → Taken a c
+taken_then s p q = taken_on p (record { bytes = s; gone = q })
+
+pub ruleset taking = (taken_on, taken_then)

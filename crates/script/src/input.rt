@@ -1,80 +1,66 @@
 // Numbers and bytes of a script, from standard input.
-ghost use Rattle.std.specs.Prelude.{◌≡◌, ℕ, ◌<◌, ◌≤◌, IfOk, List, OnErr, length, take};
-ghost use Rattle.std.specs.Io.KnownBytes.{Consumes, IsAtEnd};
+ghost use Rattle.std.specs.Prelude.{◌≡◌, ◌≤◌, IfOk, IfSome, length};
+ghost use Rattle.std.specs.Io.KnownBytes.{IsAtEnd};
+ghost use Rattle.script.specs.Taken.{Taken};
 
 use intake::read_full;
 use std::io;
 use std::io::Read;
 
-// Above every number of a script: it has ended, or there is no room.
-pub const CUT: usize = 4294967296;
-
-// A number with one more byte behind it; four bytes are kept.
-fn joined(v: usize, b: u8) -> usize
-    ensures { result ≤ 4294967295 }
+// A number of up to four bytes, highest first; none where the script has ended or the number would be longer. What
+// was read is gone from the input, also where a read fails behind it.
+pub fn number<R: Read>(input: &mut R, width: usize) -> io::Result<Option<u32>>
+    ensures cut { IfOk result (λ n. n ≡ None → width ≤ 4 → IsAtEnd (R.remaining input.new)) }
+    ensures taken { Taken (R.remaining input.old) (R.remaining input.new) }
 {
-    256 * (v % 16777216) + b as usize
+    let mut bytes = [0; 4];
+    if width > 4 {
+        return Ok(None);
+    }
+    if read_full(input, &mut bytes[4 - width..])? < width {
+        return Ok(None);
+    }
+    Ok(Some(u32::from_be_bytes(bytes)))
 }
 
-// Bytes as a number, highest first.
-fn value_of(s: &[u8]) -> usize
-    ensures { result ≤ 4294967295 }
+// Bytes behind their number; how many, and none where the script has ended or there is no room.
+#[tactic(auto, using(crate::proofs::Taken::taking))]
+pub fn take<R: Read>(input: &mut R, buf: &mut [u8], width: usize) -> io::Result<Option<usize>>
+    ensures room { IfOk result (λ n. IfSome n (λ k. k ≤ length buf.new)) }
+    ensures taken { Taken (R.remaining input.old) (R.remaining input.new) }
 {
-    let mut v: usize = 0;
-    let mut i: usize = 0;
-    while i < s.len() {
-        v = joined(v, s[i]);
-        i += 1;
-    }
-    v
-}
-
-// A number of up to four bytes. What was read is gone from the input, also where a read fails behind it.
-pub fn number<R: Read>(input: &mut R, width: usize) -> io::Result<usize>
-    ensures value { IfOk result (λ n. n ≤ 4294967296) }
-    ensures cut { IfOk result (λ n. n ≡ CUT → width ≤ 4 → IsAtEnd (R.remaining input.new)) }
-    ensures taken { (s : List ℕ) × Consumes (R.remaining input.old) (R.remaining input.new) s }
-{
-    let mut small = [0u8; 4];
-    if 4 < width {
-        return Ok(CUT);
-    }
-    if read_full(input, &mut small[..width])? < width {
-        return Ok(CUT);
-    }
-    Ok(value_of(&small[..width]))
-}
-
-// Bytes behind their number; how many.
-pub fn take<R: Read>(input: &mut R, buf: &mut [u8], width: usize) -> io::Result<usize>
-    ensures { (s : List ℕ) × Consumes (R.remaining input.old) (R.remaining input.new) s }
-{
-    let n = number(input, width)?;
+    let Some(n) = number(input, width)? else {
+        return Ok(None);
+    };
+    let n = n as usize;
     if buf.len() < n {
-        return Ok(CUT);
+        return Ok(None);
     }
     if read_full(input, &mut buf[..n])? < n {
-        return Ok(CUT);
+        return Ok(None);
     }
-    Ok(n)
+    Ok(Some(n))
 }
 
-// So many words of four bytes; how many.
-pub fn take_words<R: Read>(input: &mut R, words: &mut [u32], count: usize) -> io::Result<usize>
-    ensures cut { IfOk result (λ n. n ≡ CUT → count < CUT → count ≤ length words.old → IsAtEnd (R.remaining input.new)) }
-    ensures taken { (s : List ℕ) × Consumes (R.remaining input.old) (R.remaining input.new) s }
+// So many words of four bytes; how many, and none where the script has ended or there is no room.
+#[tactic(auto, using(crate::proofs::Taken::taking))]
+pub fn take_words<R: Read>(
+    input: &mut R,
+    words: &mut [u32],
+    count: usize,
+) -> io::Result<Option<usize>>
+    ensures all { IfOk result (λ n. IfSome n (λ k. (k ≡ count) × (k ≤ length words.new))) }
+    ensures cut { IfOk result (λ n. n ≡ None → count ≤ length words.old → IsAtEnd (R.remaining input.new)) }
+    ensures taken { Taken (R.remaining input.old) (R.remaining input.new) }
 {
     if words.len() < count {
-        return Ok(CUT);
+        return Ok(None);
     }
-    let mut i: usize = 0;
-    while i < count {
-        let v = number(input, 4)?;
-        if v == CUT {
-            return Ok(CUT);
-        }
-        words[i] = v as u32;
-        i += 1;
+    for word in &mut words[..count] {
+        let Some(n) = number(input, 4)? else {
+            return Ok(None);
+        };
+        *word = n;
     }
-    Ok(count)
+    Ok(Some(count))
 }

@@ -9,5 +9,5 @@ pub mod map;
 // Bytes that are lent to be written to: set, and said.
 pub mod output;
 
-pub use answers::{say, say_number, say_refused, say_row, say_word};
-pub use input::{CUT, number, take, take_words};
+pub use answers::{say, say_number, say_refused, say_row};
+pub use input::{number, take, take_words};

@@ -1,5 +1,6 @@
 -- The hunt's answer is the first frame, and none only where none stands.
 use mathlib.Core.Path.{◌≡◌, refl, sym}
+use Rattle.std.specs.Prelude.{Result, Ok, Err}
 use mathlib.Core.Bool.{Bool, true, false, cond, ◌&&◌}
 use mathlib.Core.List.{List}
 use Prim.Native.Nat.{ℕ, zero, suc, ◌+◌, ◌≤◌, ◌<◌}
@@ -9,8 +10,8 @@ use lib.Dec.{eqb, leb}
 use lib.ListN.{length}
 use Rattle.kernel.proofs.Tests.{both}
 use Rattle.sync.specs.declared.Hunted.{Hunted}
-use Rattle.sync.specs.declared.Hunted.TheVariants.{Found, Refused}
-use Rattle.sync.specs.Sync.{marked, size_at, end_at, frame_at, first_of}
+use Rattle.kernel.specs.declared.Refusal.{Refusal}
+use Rattle.sync.specs.Sync.{marked, size_at, end_at, frame_at, found, first_of}
 use Rattle.kernel.specs.Answer.{unread}
 use Rattle.sync.specs.Claims.{StandsFirst}
 
@@ -38,12 +39,12 @@ module _ (s : List ℕ) where
   inside p e = tests_hold (marked s p) (size_at s p) (end_at s p) (length s) _ e
 
   -- what an answer says of k places from p on
-  abbrev pub Says : ℕ → ℕ → Hunted → Type 0
-  Says p k (Found q n) = StandsFirst s p q × (n ≡ size_at s q)
-  Says p k (Refused x) = (x ≡ unread 20) × ((q : ℕ) → p ≤ q → q < p + k → frame_at s q ≡ false)
+  abbrev pub Says : ℕ → ℕ → Result Hunted Refusal → Type 0
+  Says p k (Ok h) = StandsFirst s p h.place × (h.size ≡ size_at s h.place)
+  Says p k (Err x) = (x ≡ unread 20) × ((q : ℕ) → p ≤ q → q < p + k → frame_at s q ≡ false)
 
-  one_more : (p k : ℕ) (x : Hunted) → frame_at s p ≡ false → Says (p + 1) k x → Says p (suc k) x
-  one_more p k (Found q n) e (w, l) = (
+  one_more : (p k : ℕ) (x : Result Hunted Refusal) → frame_at s p ≡ false → Says (p + 1) k x → Says p (suc k) x
+  one_more p k (Ok h) e (w, l) = (
     record {
       after = omega (arith, w.after);
       stands = w.stands;
@@ -52,10 +53,10 @@ module _ (s : List ℕ) where
     },
     l,
   )
-  one_more p k (Refused x) e (w, l) = (w, λ r lo hi. from_next p r lo (λ i. rw (sym i) e) (λ m. l r m (omega arith)))
+  one_more p k (Err x) e (w, l) = (w, λ r lo hi. from_next p r lo (λ i. rw (sym i) e) (λ m. l r m (omega arith)))
 
   turn : (p k : ℕ) (b : Bool) → frame_at s p ≡ b → Says (p + 1) k (first_of s (p + 1) k)
-      → Says p (suc k) (cond b (Found p (size_at s p)) (first_of s (p + 1) k))
+      → Says p (suc k) (cond b (found p (size_at s p)) (first_of s (p + 1) k))
   turn p k true e h = (record { after = omega arith; stands = e; first = λ r lo hi. absurd (omega arith) }, refl)
   turn p k false e h = one_more p k (first_of s (p + 1) k) e h
 
@@ -64,7 +65,7 @@ module _ (s : List ℕ) where
   first_says zero p = (refl, λ q lo hi. absurd (omega arith))
   first_says (suc k) p = turn p k (frame_at s p) refl (first_says k (p + 1))
 
-  pub first_is : (k p q : ℕ) → q < p + k → StandsFirst s p q → first_of s p k ≡ Found q (size_at s q)
+  pub first_is : (k p q : ℕ) → q < p + k → StandsFirst s p q → first_of s p k ≡ found q (size_at s q)
   unfolding first_of
   first_is zero p q h w = absurd (omega (arith, w.after))
   first_is (suc k) p q h w =

@@ -10,10 +10,9 @@ use lib.Dec.{eqb}
 use lib.ListN.{length, drop, length-append}
 use lib.Seq.{take-append_seam, drop_at, get_or-append_seam, get_or-append-add}
 use Rattle.kernel.proofs.Tests.{or_right}
-use Rattle.sync.specs.declared.Hunted.TheVariants.{Found}
-use Rattle.sync.specs.Sync.{marked, size_at, frame_at, frame_of}
+use Rattle.sync.specs.Sync.{marked, size_at, frame_at, frame_of, found}
 use Rattle.sync.specs.Claims.{Frame, FoundAt}
-use Rattle.sync.proofs.Places.{first_here, hunt_is}
+use Rattle.sync.proofs.Places.{hunt_here}
 
 -- the mark of a frame that stands behind other bytes
 mark_behind : (next : List ℕ) → length next ≤ 8191 → (more front : List ℕ)
@@ -62,8 +61,8 @@ module _ (before el more : List ℕ) (some : 1 ≤ length el) (few : length el �
       let n : length (before ++ mark) ≡ p + 3 = simp length-append (omega arith) in
       rw (append_assoc before mark (el ++ more)) at (drop_at (before ++ mark) (el ++ more) (p + 3) n)
 
-  pub found : (more ≡ []) ⊎ Frame more → length s ≤ 65536 → FoundAt s p el
-  found f h = (
-    sym (hunt_is s p h (first_here s p (omega (arith, length_is)) (stands f) ∙ ap (Found p) size_is)),
+  pub written_found : (more ≡ []) ⊎ Frame more → length s ≤ 65536 → FoundAt s p el
+  written_found f h = (
+    hunt_here s p h (omega (arith, length_is)) (stands f) ∙ ap (found p) size_is,
     rw (le-leb (p + 3 + length el) (length s) (omega (arith, length_is)), behind) (take-append_seam el more),
   )

@@ -1,7 +1,7 @@
 // LOAS frames: found in a capture, and written.
 #![tactic(auto)]
 
-ghost use Rattle.std.specs.Prelude.{◌≡◌, ◌+◌, ◌≤◌, leb, get_or};
+ghost use Rattle.std.specs.Prelude.{◌≡◌, ◌+◌, ◌≤◌, ◌<◌, MatchOption, length, get_or, take, drop};
 ghost use Rattle.sync.specs.Sync.{marked, size_at, frame_at, hunt_of, element_at};
 ghost use Rattle.sync.specs.Promises.{FramePromise};
 
@@ -9,16 +9,9 @@ use kernel::{Refusal, lay, unread};
 
 // The place of a frame and the bytes of its element.
 #[derive(Clone, Copy)]
-pub enum Hunted {
-    Found(usize, usize),
-    Refused(Refusal),
-}
-
-// The bytes of a frame written.
-#[derive(Clone, Copy)]
-pub enum Framed {
-    Done(usize),
-    Refused(Refusal),
+pub struct Hunted {
+    pub place: usize,
+    pub size: usize,
 }
 
 // 0 past the end.
@@ -26,20 +19,14 @@ fn byte_at(s: &[u8], i: usize) -> usize
     ensures is { result ≡ get_or s.now i 0 }
     ensures small { result ≤ 255 }
 {
-    if i < s.len() {
-        return s[i] as usize;
-    }
-    0
+    usize::from(s.get(i).copied().unwrap_or(0))
 }
 
 fn marked(s: &[u8], p: usize) -> bool
     requires { p + 2 ≤ 1000000 }
     ensures { result ≡ marked s.now p }
 {
-    if byte_at(s, p) == 0x56 {
-        return (p + 2 <= s.len()) & (byte_at(s, p + 1) / 32 == 7);
-    }
-    false
+    p + 2 <= s.len() && byte_at(s, p) == 0x56 && byte_at(s, p + 1) / 32 == 7
 }
 
 fn size_at(s: &[u8], p: usize) -> usize
@@ -54,76 +41,58 @@ fn frame_at(s: &[u8], p: usize) -> bool
     requires { p + 8196 ≤ 1000000 }
     ensures { result ≡ frame_at s.now p }
 {
-    if marked(s, p) {
-        let n = size_at(s, p);
-        let end = p + 3 + n;
-        return (1 <= n) & ((end <= s.len()) & ((end == s.len()) | marked(s, end)));
-    }
-    false
+    let n = size_at(s, p);
+    let end = p + 3 + n;
+    marked(s, p) && 1 <= n && end <= s.len() && (end == s.len() || marked(s, end))
 }
 
 // The first place at or after the start where a frame stands.
-pub fn hunt(capture: &[u8], start: usize) -> Hunted
+#[tactic(auto, using(crate::proofs::Places::hunting))]
+pub fn hunt(capture: &[u8], start: usize) -> Result<Hunted, Refusal>
     ensures { result ≡ hunt_of capture.now start }
 {
     if capture.len() > 65536 {
-        return Hunted::Refused(unread(20));
+        return Err(unread(20));
     }
-    let mut p = start;
-    while p < capture.len() {
+    for p in start..capture.len() {
         if frame_at(capture, p) {
-            return Hunted::Found(p, size_at(capture, p));
+            return Ok(Hunted {
+                place: p,
+                size: size_at(capture, p),
+            });
         }
-        p += 1;
     }
-    Hunted::Refused(unread(20))
+    Err(unread(20))
 }
 
-// A frame of so many bytes of element ends within the room.
-fn ends_within(room: usize, place: usize, size: usize) -> bool
-    ensures { result ≡ leb (place + 3 + size) room }
+// The bytes of a frame behind its first three, where the capture holds them.
+#[tactic(auto, using(crate::proofs::Places::behind_mark))]
+fn element_in(capture: &[u8], place: usize, size: usize) -> Option<&[u8]>
+    ensures { MatchOption result (length capture.now < place + 3 + size)
+        (λ r. (place + 3 + size ≤ length capture.now) × (r.now ≡ take size (drop (place + 3) capture.now))) }
 {
-    if room < 3 {
-        return false;
-    }
-    if room - 3 < place {
-        return false;
-    }
-    if room - 3 - place < size {
-        return false;
-    }
-    true
+    capture.get(place..)?.get(3..)?.get(..size)
 }
 
 // The element of a frame, as a part of the caller's own bytes; no byte where the capture does not hold it.
 pub fn element_at(capture: &[u8], place: usize, size: usize) -> &[u8]
     ensures { result.now ≡ element_at capture.now place size }
 {
-    if ends_within(capture.len(), place, size) {
-        let from = place + 3;
-        let to = from + size;
-        return &capture[from..to];
-    }
-    &capture[0..0]
+    element_in(capture, place, size).unwrap_or(&[])
 }
 
 // Lays the frame of an element at the start of `out`.
-pub fn frame(el: &[u8], out: &mut [u8]) -> Framed
+pub fn frame(el: &[u8], out: &mut [u8]) -> Result<usize, Refusal>
     ensures { FramePromise el.now out.old result out.new }
 {
     let n = el.len();
-    if n == 0 {
-        return Framed::Refused(unread(2));
-    }
-    if n > 8191 {
-        return Framed::Refused(unread(2));
+    if n == 0 || n > 8191 {
+        return Err(unread(2));
     }
     if out.len() < 3 + n {
-        return Framed::Refused(unread(19));
+        return Err(unread(19));
     }
-    out[0] = 0x56;
-    out[1] = (224 + n / 256) as u8;
-    out[2] = (n % 256) as u8;
-    let end = lay(out, 3, el);
-    Framed::Done(end)
+    let [high, low] = (0xE000 + n as u16).to_be_bytes();
+    let at = lay(out, 0, &[0x56, high, low]);
+    Ok(lay(out, at, el))
 }

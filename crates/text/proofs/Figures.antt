@@ -60,3 +60,9 @@ unfolding figures
 figures_step l r at k m v d e =
     sets_last (figures k (m / 10)) l at (at + k) v (omega (arith, length_figures k (m / 10)))
     ∙ rw d (rw (add-one k) at e)
+
+pub figures_none : (l : List ℕ) (at k m : ℕ) → k ≡ 0 → sets l at (figures k m) ≡ l
+unfolding figures
+figures_none l at k m e = rw e
+
+pub ruleset laying_figures = (figures_step, figures_none, length_figures)

@@ -1,31 +1,34 @@
 -- Laws of the words of a refusal.
-use mathlib.Core.Path.{◌≡◌, ◌∙◌}
-use mathlib.Core.List.{List, map}
-use Prim.Native.Nat.{ℕ, ◌≤◌, ◌<◌}
+use mathlib.Core.Path.{◌≡◌, refl, sym}
+use mathlib.Core.Bool.{Bool, true}
+use mathlib.Core.List.{List, [], ◌∷◌, map}
+use Prim.Native.Nat.{ℕ, zero, suc, ◌≤◌}
 use Prim.Native.String.{String}
-use native.Mathlib.Omega.{arith}
-use lib.ListN.{length, get_or, take, length-append, length-replicate, get_or-map, get_or-eq_default}
-use lib.Seq.{take-append_seam}
-use Rattle.kernel.proofs.Lists.{get_d_any}
-use Rattle.text.specs.Words.{unknown, refusals, words_of, padded}
+use borrow.Author.Tests.{leb-true}
+use denote.Ref.{Bor}
+use lib.Dec.{leb}
+use lib.ListN.{length, get_or, get_or-map}
+use Rattle.std.specs.List.{list_all}
+use Rattle.kernel.proofs.Tests.{both}
+use Rattle.text.specs.Text.{letters}
+use Rattle.text.specs.Words.{unknown, refusals, words_of}
 
--- an entry of a table that was made of the words
-pub entry : {A : Type 0} (f : String → A) (d : A) (number : ℕ) → number < 21
-    → get_or (map f refusals) number d ≡ f (get_or refusals number unknown)
-entry f d number h = get_d_any (map f refusals) number d (f unknown) h ∙ get_or-map f refusals number unknown
+-- the bytes of an entry
+pub bytes_at : (table : List (Bor (List ℕ))) (i : ℕ) (other : Bor (List ℕ))
+    → (get_or table i other).now ≡ get_or (map (λ words. words.now) table) i other.now
+bytes_at table i other = sym (get_or-map (λ words. words.now) table i other)
 
--- as many letters of padded words as the words have are the words
-pub words_are : (w number : ℕ) {line : List ℕ} {n : ℕ} → line ≡ padded w (get_or refusals number unknown)
-    → n ≡ length (words_of number) → take n line ≡ words_of number
-words_are w number e q = rw (e, q) (take-append_seam (words_of number) _)
+pub table_words : (number : ℕ) → get_or (map letters refusals) number (letters unknown) ≡ words_of number
+table_words number = get_or-map letters refusals number unknown
 
--- and no more than there are places
-pub words_fit : (w number : ℕ) {line : List ℕ} → length line ≡ w → line ≡ padded w (get_or refusals number unknown)
-    → length (words_of number) ≤ w
-words_fit w number {line} l e =
-    let p : length line ≡ length (padded w (get_or refusals number unknown)) = rw e in
-    omega (arith, simp (length-append, length-replicate) at p)
+abbrev few : String → Bool
+few words = leb (length (letters words)) 68
 
--- a number past the last has those of the first
-pub past_words : (number : ℕ) → 21 ≤ number → words_of number ≡ words_of 0
-past_words number h = rw (get_or-eq_default refusals unknown {n = number} h)
+few_at : (all : List String) (number : ℕ) → list_all few all ≡ true → few (get_or all number unknown) ≡ true
+few_at [] number h = refl
+few_at (words ∷ all) zero h = (both (few words) (list_all few all) h).0
+few_at (words ∷ all) (suc number) h = few_at all number (both (few words) (list_all few all) h).1
+
+-- none has more than 68 letters
+pub words_few : {words : List ℕ} (number : ℕ) → words ≡ words_of number → length words ≤ 68
+words_few number e = rw e (leb-true (length (words_of number)) 68 (few_at refusals number refl))

@@ -1,5 +1,5 @@
 -- The refusals in plain words.
-use Rattle.std.specs.Prelude.{List, [], ◌∷◌, ◌++◌, ℕ, ◌-◌, length, get_or, replicate}
+use Rattle.std.specs.Prelude.{List, [], ◌∷◌, ℕ, get_or}
 use Prim.Native.String.{String}
 use Rattle.text.specs.Text.{letters}
 
@@ -36,7 +36,3 @@ refusals =
 -- the words of a refusal, in bytes
 abbrev pub words_of : ℕ → List ℕ
 words_of number = letters (get_or refusals number unknown)
-
--- words in so many places, blanks behind them
-abbrev pub padded : ℕ → String → List ℕ
-padded w s = letters s ++ replicate (w - length (letters s)) 32

@@ -3,246 +3,227 @@
 
 mod slots;
 
-ghost use Rattle.std.specs.Prelude.{◌≡◌, cond, [], ◌∷◌, ◌+◌, ◌*◌, ◌≤◌, length, take};
+ghost use Rattle.std.specs.Prelude.{◌≡◌, ◌+◌, ◌*◌, ◌≤◌, ◌<◌, IfOk, length, take};
 ghost use Rattle.std.proofs.lemmas.List.Edits.{sets};
 ghost use Rattle.kernel.specs.Reading.{Stands};
-ghost use Rattle.element.specs.Mux.{payload_mux, subframe, subframes, other_data, byte_alignment};
-ghost use Rattle.walk.specs.Plan.{slots_by, planned};
-ghost use Rattle.walk.specs.Parts.{front_numbers, front_count};
-ghost use Rattle.walk.specs.Promises.{Ready, Planned, Walks, PassesOver, FinishPromise};
+ghost use Rattle.kernel.specs.Element.{closed};
+ghost use Rattle.element.specs.Mux.{pass_over, payload_mux, subframe, subframes, other_data, byte_alignment};
+ghost use Rattle.walk.specs.Plan.{slots_by, other_by, planned, Planned};
+ghost use Rattle.walk.specs.Parts.{walked, mapped, front_numbers, front_count};
+ghost use Rattle.walk.specs.Promises.{Ready, FinishPromise};
 
-use element::Verdict;
-use kernel::{Cursor, Reached, Refusal, refused_at, skip};
+use element::Accepted;
+use kernel::{Cursor, Refusal, refused_at, skip};
 use slots::lengths_of;
 
-// What a walk needs of a configuration; of each stream 0, where length bytes give its slots, or the bits of fixed ones.
+// What a walk needs of a configuration: of each stream the bits of its slots, where they are fixed; and the bits of
+// other data, if there is any.
 #[derive(Clone, Copy)]
 pub struct Plan {
-    pub slots: [u32; 16],
+    pub slots: [Option<u32>; 16],
     pub streams: usize,
     pub subframes: u32,
-    pub other: bool,
-    pub bits: u32,
+    pub other: Option<u32>,
 }
 
-// What a walk came to: so many items stand in the map, and the cursor; or a refusal.
+// How far a walk has come: so many items were made, and the cursor behind the last.
 #[derive(Clone, Copy)]
-pub enum Walked {
-    Items(u32, Cursor),
-    Refused(Refusal),
+pub struct Walked {
+    pub items: u32,
+    pub cursor: Cursor,
 }
 
-// What was reached, and beside it the bits of the slots of one subframe.
-#[derive(Clone, Copy)]
-pub struct Lengths {
-    pub reached: Reached,
-    pub widths: [u32; 16],
-}
-
-// One item stored behind the k that stand, or none.
-fn push_if(map: &mut [u32], store: bool, k: u32, kind: u32, stream: u32, first: u32, width: u32)
-    requires { 4 * (k + 1) ≤ length map.old }
-    ensures { map.new
-        ≡ cond store (sets map.old (4 * k) (kind ∷ stream ∷ first ∷ width ∷ [])) map.old }
+// An item stored behind the k that stand. A map without a place keeps nothing: it is lent where a walk is dry.
+#[tactic(auto, using(crate::proofs::Steps::sets_none))]
+fn push(map: &mut [u32], k: u32, item: [u32; 4])
+    requires { 0 < length map.old → 4 * (k + 1) ≤ length map.old }
+    ensures { map.new ≡ sets map.old (4 * k) item }
 {
-    if store {
-        let at = 4 * (k as usize);
-        map[at] = kind;
-        map[at + 1] = stream;
-        map[at + 2] = first;
-        map[at + 3] = width;
+    if map.len() > 0 {
+        let at = 4 * k as usize;
+        map[at] = item[0];
+        map[at + 1] = item[1];
+        map[at + 2] = item[2];
+        map[at + 3] = item[3];
     }
 }
 
 // An item passed over: its bits must be there.
+#[tactic(auto, using(crate::proofs::Steps::steps))]
 fn pass_item(
     el: &[u8],
     kind: u32,
     stream: u32,
     width: u32,
-    c: Cursor,
-    k: u32,
+    from: Walked,
     map: &mut [u32],
-    store: bool,
-) -> Walked
-    requires { Ready el.now c map.old k 1 }
-    ensures { PassesOver el.now kind stream width c k store map.old result map.new }
+) -> Result<Walked, Refusal>
+    requires { Ready el.now from map.old 1 }
+    ensures walks { result ≡ walked el.now (pass_over closed kind stream width) from }
+    ensures maps { map.new ≡ mapped el.now (pass_over closed kind stream width) from map.old }
+    ensures few { IfOk result (λ w. w.items ≤ from.items + 1) }
 {
-    let c1 = match skip(el, c, width as usize) {
-        Reached::To(to) => to,
-        Reached::Refused(x) => return Walked::Refused(x),
-    };
-    push_if(map, store, k, kind, stream, c.at as u32, width);
-    Walked::Items(k + 1, c1)
+    let cursor = skip(el, from.cursor, width as usize)?;
+    push(
+        map,
+        from.items,
+        [kind, stream, from.cursor.at as u32, width],
+    );
+    Ok(Walked {
+        items: from.items + 1,
+        cursor: cursor,
+    })
 }
 
-// A payload for each of n streams.
+// A payload for each stream, of these widths.
+#[tactic(auto, using(crate::proofs::Turns::payload_by_payload))]
 fn payloads_of(
     el: &[u8],
-    widths: [u32; 16],
-    n: usize,
-    c: Cursor,
-    k: u32,
+    widths: &[u32],
+    from: Walked,
     map: &mut [u32],
-    store: bool,
-) -> Walked
-    requires { (n ≤ 16) × Ready el.now c map.old k n }
-    ensures { Walks el.now (payload_mux 0 (take n widths)) c k n store
-        map.old result map.new }
+) -> Result<Walked, Refusal>
+    requires { (length widths.now ≤ 16) × Ready el.now from map.old (length widths.now) }
+    ensures walks { result ≡ walked el.now (payload_mux 0 widths.now) from }
+    ensures maps { map.new ≡ mapped el.now (payload_mux 0 widths.now) from map.old }
+    ensures few { IfOk result (λ w. w.items ≤ from.items + length widths.now) }
 {
-    let mut cur = c;
-    let mut items = k;
-    let mut i: usize = 0;
-    while i < n {
-        let w = widths[i];
-        let got = pass_item(el, 4, i as u32, w, cur, items, map, store);
-        let Walked::Items(more, c1) = got else {
-            return got;
-        };
-        cur = c1;
-        items = more;
-        i += 1;
+    let mut walked = from;
+    for (i, width) in widths.iter().enumerate() {
+        walked = pass_item(el, 4, i as u32, *width, walked, map)?;
     }
-    Walked::Items(items, cur)
+    Ok(walked)
 }
 
 // One subframe: all lengths, then all payloads.
+#[tactic(auto, using(crate::proofs::Steps::part_steps), unfolding(element::specs::Mux::subframe))]
 fn subframe_of(
     el: &[u8],
-    slots: [u32; 16],
-    n: usize,
-    c: Cursor,
-    k: u32,
+    slots: &[Option<u32>],
+    from: Walked,
     map: &mut [u32],
-    store: bool,
-) -> Walked
-    requires { (n ≤ 16) × Ready el.now c map.old k 17 }
-    ensures { Walks el.now (subframe (slots_by (take n slots))) c k 17 store
-        map.old result map.new }
+) -> Result<Walked, Refusal>
+    requires { (length slots.now ≤ 16) × Ready el.now from map.old 17 }
+    ensures walks { result ≡ walked el.now (subframe (slots_by slots.now)) from }
+    ensures maps { map.new ≡ mapped el.now (subframe (slots_by slots.now)) from map.old }
+    ensures few { IfOk result (λ w. w.items ≤ from.items + 17) }
 {
-    let first = c.at;
-    let lengths = lengths_of(el, slots, n, c);
-    let reached = lengths.reached;
-    let c1 = match reached {
-        Reached::To(to) => to,
-        Reached::Refused(x) => return Walked::Refused(x),
+    let first = from.cursor.at;
+    let lengths = lengths_of(el, slots, from.cursor)?;
+    let width = lengths.next.at - first;
+    push(map, from.items, [3, 0, first as u32, width as u32]);
+    let behind = Walked {
+        items: from.items + 1,
+        cursor: lengths.next,
     };
-    let width = c1.at - first;
-    push_if(map, store, k, 3, 0, first as u32, width as u32);
-    let widths = lengths.widths;
-    payloads_of(el, widths, n, c1, k + 1, map, store)
+    payloads_of(el, &lengths.value[..slots.len()], behind, map)
 }
 
+#[tactic(auto, using(crate::proofs::Turns::subframe_by_subframe))]
 fn subframes_of(
     el: &[u8],
-    slots: [u32; 16],
-    n: usize,
+    slots: &[Option<u32>],
     count: u32,
-    c: Cursor,
-    k: u32,
+    from: Walked,
     map: &mut [u32],
-    store: bool,
-) -> Walked
-    requires { (n ≤ 16) × Ready el.now c map.old k (17 * count) }
-    ensures { Walks el.now (subframes count (slots_by (take n slots))) c k (17 * count) store
-        map.old result map.new }
+) -> Result<Walked, Refusal>
+    requires { (length slots.now ≤ 16) × Ready el.now from map.old (17 * count) }
+    ensures walks { result ≡ walked el.now (subframes count (slots_by slots.now)) from }
+    ensures maps { map.new ≡ mapped el.now (subframes count (slots_by slots.now)) from map.old }
+    ensures few { IfOk result (λ w. w.items ≤ from.items + 17 * count) }
 {
-    let mut cur = c;
-    let mut items = k;
-    let mut left = count;
-    while 0 < left {
-        let got = subframe_of(el, slots, n, cur, items, map, store);
-        let Walked::Items(more, c1) = got else {
-            return got;
-        };
-        cur = c1;
-        items = more;
-        left -= 1;
+    let mut walked = from;
+    for i in 0..count {
+        walked = subframe_of(el, slots, walked, map)?;
     }
-    Walked::Items(items, cur)
+    Ok(walked)
 }
 
+#[tactic(auto, using(crate::proofs::Steps::steps), unfolding(element::specs::Mux::other_data))]
 fn other_of(
     el: &[u8],
-    present: bool,
-    bits: u32,
-    c: Cursor,
-    k: u32,
+    other: Option<u32>,
+    from: Walked,
     map: &mut [u32],
-    store: bool,
-) -> Walked
-    requires { Ready el.now c map.old k 1 }
-    ensures { Walks el.now (other_data present bits) c k 1 store
-        map.old result map.new }
+) -> Result<Walked, Refusal>
+    requires { Ready el.now from map.old 1 }
+    ensures walks { result ≡ walked el.now (other_by other) from }
+    ensures maps { map.new ≡ mapped el.now (other_by other) from map.old }
+    ensures few { IfOk result (λ w. w.items ≤ from.items + 1) }
 {
-    if present {
-        return pass_item(el, 5, 0, bits, c, k, map, store);
+    match other {
+        Some(bits) => pass_item(el, 5, 0, bits, from, map),
+        None => Ok(from),
     }
-    Walked::Items(k, c)
 }
 
-fn alignment_of(el: &[u8], c: Cursor, k: u32, map: &mut [u32], store: bool) -> Walked
-    requires { Ready el.now c map.old k 1 }
-    ensures { Walks el.now byte_alignment c k 1 store map.old result map.new }
+#[tactic(auto, using(crate::proofs::Steps::steps), unfolding(element::specs::Mux::byte_alignment))]
+fn alignment_of(el: &[u8], from: Walked, map: &mut [u32]) -> Result<Walked, Refusal>
+    requires { Ready el.now from map.old 1 }
+    ensures walks { result ≡ walked el.now byte_alignment from }
+    ensures maps { map.new ≡ mapped el.now byte_alignment from map.old }
+    ensures few { IfOk result (λ w. w.items ≤ from.items + 1) }
 {
-    let at = c.at;
-    pass_item(el, 6, 0, ((8 - at % 8) % 8) as u32, c, k, map, store)
+    let width = (8 - from.cursor.at % 8) % 8;
+    pass_item(el, 6, 0, width as u32, from, map)
 }
 
 // What follows the configuration.
-fn rest_of(el: &[u8], plan: Plan, c: Cursor, k: u32, map: &mut [u32], store: bool) -> Walked
-    requires { Planned plan × Ready el.now c map.old k (17 * plan.subframes + 2) }
-    ensures { Walks el.now (planned plan) c k (17 * plan.subframes + 2) store
-        map.old result map.new }
+#[tactic(auto, using(crate::proofs::Steps::steps), unfolding(element::specs::Mux::rest))]
+fn rest_of(el: &[u8], plan: Plan, from: Walked, map: &mut [u32]) -> Result<Walked, Refusal>
+    requires { Planned plan × Ready el.now from map.old (17 * plan.subframes + 2) }
+    ensures walks { result ≡ walked el.now (planned plan) from }
+    ensures maps { map.new ≡ mapped el.now (planned plan) from map.old }
+    ensures few { IfOk result (λ w. w.items ≤ from.items + (17 * plan.subframes + 2)) }
 {
-    let slots = plan.slots;
-    let a = subframes_of(el, slots, plan.streams, plan.subframes, c, k, map, store);
-    let Walked::Items(k1, c1) = a else {
-        return a;
-    };
-    let b = other_of(el, plan.other, plan.bits, c1, k1, map, store);
-    let Walked::Items(k2, c2) = b else {
-        return b;
-    };
-    alignment_of(el, c2, k2, map, store)
+    let slots = &plan.slots[..plan.streams];
+    let framed = subframes_of(el, slots, plan.subframes, from, map)?;
+    let othered = other_of(el, plan.other, framed, map)?;
+    alignment_of(el, othered, map)
 }
 
 fn front_count(sent: bool) -> u32
     ensures { result ≡ front_count sent }
 {
-    if sent {
-        return 2;
-    }
-    1
+    if sent { 2 } else { 1 }
 }
 
 // The items in front: the flag, and the configuration where one was sent, up to bit `at`.
+#[tactic(auto, using(crate::proofs::Ending::fronts))]
 fn push_front(map: &mut [u32], sent: bool, at: u32)
     requires { (8 ≤ length map.old) × (1 ≤ at) }
     ensures { map.new ≡ sets map.old 0 (front_numbers sent at) }
 {
-    push_if(map, true, 0, 1, 0, 0, 1);
-    push_if(map, sent, 1, 2, 0, 1, at - 1);
+    push(map, 0, [1, 0, 0, 1]);
+    if sent {
+        push(map, 1, [2, 0, 1, at - 1]);
+    }
 }
 
-// The walk behind the configuration, first without storing anything, and once it is accepted again, into the map.
-pub fn finish(el: &[u8], plan: Plan, sent: bool, c: Cursor, map: &mut [u32]) -> Verdict
-    requires { Planned plan × (4368 ≤ length map.old) × (1 ≤ c.at) × Stands el.now c.at c.fields }
-    ensures { FinishPromise sent el.now plan c.at c.fields
-        map.old result map.new }
+// The walk behind the configuration, first over a map that keeps nothing, and once it is accepted again, into the map.
+pub fn finish(
+    el: &[u8],
+    plan: Plan,
+    sent: bool,
+    c: Cursor,
+    map: &mut [u32],
+) -> Result<Accepted, Refusal>
+    requires { Planned plan × (4368 ≤ length map.old) × (1 ≤ c.at) × Stands el.now c }
+    ensures { FinishPromise sent el.now plan c map.old result map.new }
 {
-    let k = front_count(sent);
-    let dry = rest_of(el, plan, c, k, map, false);
-    match dry {
-        Walked::Refused(x) => Verdict::Refused(x),
-        Walked::Items(items, c1) => {
-            let place = c1.at;
-            if place != 8 * el.len() {
-                return Verdict::Refused(refused_at(15, place, c1));
-            }
-            push_front(map, sent, c.at as u32);
-            rest_of(el, plan, c, k, map, true);
-            Verdict::Accepted(items, c1.fields as u32, sent)
-        }
+    let from = Walked {
+        items: front_count(sent),
+        cursor: c,
+    };
+    let end = rest_of(el, plan, from, &mut [])?.cursor;
+    if end.at != 8 * el.len() {
+        return Err(refused_at(15, end.at, end));
     }
+    push_front(map, sent, c.at as u32);
+    let whole = rest_of(el, plan, from, map)?;
+    Ok(Accepted {
+        items: whole.items,
+        fields: whole.cursor.fields as u32,
+        sent: sent,
+    })
 }

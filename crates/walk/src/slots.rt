@@ -1,78 +1,75 @@
 // Slot lengths, as they are sent or fixed.
-ghost use Rattle.std.specs.Prelude.{◌≤◌};
+ghost use Rattle.std.specs.Prelude.{◌≡◌, [], ◌-◌, ◌≤◌, IfOk, length, drop, replicate};
 ghost use Rattle.kernel.specs.Reading.{Stands};
-ghost use Rattle.kernel.specs.Answer.{told_fetched};
-ghost use Rattle.kernel.specs.Promises.{Tells};
-ghost use Rattle.element.specs.Mux.{mux_slot_length_bytes};
-ghost use Rattle.walk.specs.Plan.{slot_by};
-ghost use Rattle.walk.specs.Promises.{LengthsPromise};
+ghost use Rattle.kernel.specs.Answer.{told};
+ghost use Rattle.element.specs.Mux.{mux_slot_length_bytes, payload_length_info};
+ghost use Rattle.walk.specs.Plan.{slot_by, slots_by};
+ghost use Rattle.walk.specs.Parts.{taken};
 
-use crate::Lengths;
-use kernel::{Cursor, Fetched, Reached, Window, fetch};
+use kernel::{Cursor, Read, Refusal, Window, fetch};
 
 // Length bytes, added until one is not 255. An element has fewer than 8,192.
-fn length_bytes(el: &[u8], c: Cursor) -> Fetched
-    requires { Stands el.now c.at c.fields }
-    ensures { Tells told_fetched el.now mux_slot_length_bytes c.at c.fields result }
+#[tactic(auto, using(crate::proofs::Turns::byte_by_byte))]
+fn length_bytes(el: &[u8], c: Cursor) -> Result<Read<u32>, Refusal>
+    requires { Stands el.now c }
+    ensures told { result ≡ told el.now mux_slot_length_bytes c }
+    ensures few { IfOk result (λ r. r.value ≤ 2088960) }
 {
-    let mut cur = c;
-    let mut v: u32 = 0;
-    let mut left: u32 = 8192;
-    while 0 < left {
-        let a = fetch(el, Window::Open, cur, 8);
-        let Fetched::Value(b, c1) = a else {
-            return a;
+    let mut slot = Read { value: 0, next: c };
+    for i in 0..8192u32 {
+        let byte = fetch(el, Window::Open, slot.next, 8)?;
+        slot = Read {
+            value: slot.value + byte.value,
+            next: byte.next,
         };
-        if b != 255 {
-            return Fetched::Value(v + b, c1);
+        if byte.value != 255 {
+            return Ok(slot);
         }
-        v = v + 255;
-        cur = c1;
-        left -= 1;
     }
-    Fetched::Value(v, cur)
+    Ok(slot)
 }
 
 // The bits of a slot: by length bytes, where they are not fixed.
-fn slot_bits(el: &[u8], fixed: u32, c: Cursor) -> Fetched
-    requires { Stands el.now c.at c.fields }
-    ensures { Tells told_fetched el.now (slot_by fixed) c.at c.fields result }
+#[tactic(auto, using(kernel::proofs::Steps::steps), unfolding(crate::specs::Plan::slot_by))]
+fn slot_bits(el: &[u8], slot: Option<u32>, c: Cursor) -> Result<Read<u32>, Refusal>
+    requires { Stands el.now c }
+    ensures { result ≡ told el.now (slot_by slot) c }
 {
-    if fixed != 0 {
-        return Fetched::Value(fixed, c);
+    match slot {
+        Some(width) => Ok(Read {
+            value: width,
+            next: c,
+        }),
+        None => {
+            let bytes = length_bytes(el, c)?;
+            Ok(Read {
+                value: 8 * bytes.value,
+                next: bytes.next,
+            })
+        }
     }
-    let a = length_bytes(el, c);
-    let Fetched::Value(v, c1) = a else {
-        return a;
-    };
-    Fetched::Value(8 * v, c1)
 }
 
-// The slots of n streams; zeros stand where there is none.
-pub fn lengths_of(el: &[u8], slots: [u32; 16], n: usize, c: Cursor) -> Lengths
-    requires { (n ≤ 16) × Stands el.now c.at c.fields }
-    ensures { LengthsPromise slots n el.now c.at c.fields result }
+// The slots of so many streams; zeros stand where there is none.
+#[tactic(auto, using(crate::proofs::Turns::slot_by_slot))]
+pub fn lengths_of(
+    el: &[u8],
+    slots: &[Option<u32>],
+    c: Cursor,
+) -> Result<Read<[u32; 16]>, Refusal>
+    requires { (length slots.now ≤ 16) × Stands el.now c }
+    ensures told { taken (length slots.now) result ≡ told el.now (payload_length_info [] (slots_by slots.now)) c }
+    ensures zeros { IfOk result (λ ws. drop (length slots.now) ws.value ≡ replicate (16 - length slots.now) 0) }
 {
-    let mut cur = c;
-    let mut widths: [u32; 16] = [0; 16];
-    let mut i: usize = 0;
-    while i < n {
-        match slot_bits(el, slots[i], cur) {
-            Fetched::Value(w, c1) => {
-                widths[i] = w;
-                cur = c1;
-            }
-            Fetched::Refused(x) => {
-                return Lengths {
-                    reached: Reached::Refused(x),
-                    widths: [0; 16],
-                };
-            }
-        }
-        i += 1;
+    let mut widths = [0u32; 16];
+    let mut next = c;
+    for (i, slot) in slots.iter().enumerate() {
+        let bits = slot_bits(el, *slot, next)?;
+        widths[i] = bits.value;
+        next = bits.next;
     }
-    Lengths {
-        reached: Reached::To(cur),
-        widths: widths,
-    }
+    Ok(Read {
+        value: widths,
+        next: next,
+    })
 }

@@ -1,19 +1,10 @@
 -- `reader::plan_of` meets its contract.
-use native.Mathlib.Omega.{arith}
-use Rattle.reader.proofs.Plans.{plan_fits, fixable}
+use Rattle.std.proofs.Common.{arith}
+use Rattle.reader.proofs.Plans.{plan_fits, fixable, many}
 use Rattle.reader.proofs.plan_of.Goals as goal
 
-pub slots_of-slots-requires : goal.slots_of-slots-requires
-slots_of-slots-requires c =
-    let s = c in
-    rw c.streams_in-n.ensures ((plan_fits s.args.r s.requires).0, fixable s.args.r s.requires)
-
-pub overflow_add-result : goal.overflow_add-result
-overflow_add-result c =
-    let s = c in
-    omega (arith, (plan_fits s.args.r s.requires).1)
-
-pub returns : goal.returns
-returns c =
-    let f = c in
-    rw (f.slots_of-slots.ensures, f.streams_in-n.ensures)
+pub slots_of-requires : goal.slots_of-requires
+slots_of-requires c =
+    let r = c.args.r in
+    let f = plan_fits r c.requires in
+    rw c.streams_in-n.ensures (omega (arith, many r c.requires, f.0), fixable r c.requires)

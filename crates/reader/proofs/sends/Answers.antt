@@ -1,7 +1,6 @@
 -- `reader::sends` meets its contract.
-use mathlib.Core.Path.{refl}
-use native.Mathlib.Omega.{arith}
-use lib.ListN.{get_or-eq_default}
+use Rattle.std.proofs.Common.{refl, arith}
+use Rattle.std.proofs.Math.ListN.{get_or-eq_default}
 use Rattle.kernel.specs.Bits.{bit_at}
 use Rattle.reader.proofs.sends.Goals as goal
 

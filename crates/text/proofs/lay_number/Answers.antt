@@ -1,14 +1,7 @@
--- `text::lay_number` meets its contract.
-use native.Mathlib.Omega.{arith}
-use mathlib.Core.Path.{refl}
+use Rattle.std.proofs.Common.{arith, refl}
 use Rattle.kernel.proofs.Lists.{stored_one}
 use Rattle.text.proofs.lay_number.Goals as goal
 
 pub returns : goal.returns
 returns c =
-    let d = c in
-    let s = d in (
-      refl,
-      stored_one _ d.lay_figures.ensures c.store.ensures
-          (omega (arith, s.requires)),
-    )
+    (refl, stored_one _ c.lay_figures.ensures (rw c.digit.ensures at c.store.ensures) (omega arith))

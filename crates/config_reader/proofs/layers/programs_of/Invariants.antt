@@ -1,15 +1,37 @@
--- A turn begins a program or reads a stream.
-use Prim.Native.Nat.{◌+◌, ◌-◌}
+-- what is left of the programs, and of the layers of one, comes to what all of them come to
+use Rattle.std.proofs.Common.{◌≡◌, ◌+◌, ◌-◌, ◌≤◌, length}
+use Rattle.kernel.specs.Reading.{Stands}
 use Rattle.kernel.specs.Answer.{told}
-use Rattle.kernel.specs.Reading.{run}
+use Rattle.records.specs.Table.{streams_in}
 use Rattle.config.specs.Mux.{programs, no_places}
-use Rattle.config_reader.proofs.Turns.{Going}
+use Rattle.config_reader.proofs.Turns.{config_before, programs_left, layers_left, rows_until}
 use Rattle.config_reader.proofs.layers.programs_of.Given as goal
 
-abbrev pub invariant-loop-left : goal.invariant-loop-left
-invariant-loop-left l =
-    Going l.el l.version l.n (told (run l.el (programs l.version (l.n + 1) 0 0 no_places) l.initial.cur.at l.initial.cur.fields))
-    l.initial.cells l.cells (record { layers = l.layers; streams = l.streams }) l.before l.cur.at l.cur.fields l.p l.next l.left
+abbrev pub invariant-loop-p : goal.invariant-loop-p
+invariant-loop-p l =
+    record {
+      whole : told l.el (programs_left l.version l.n l.p l.next l.places.layers l.places.streams) l.cur
+          ≡ told l.el (programs l.version (l.n + 1) 0 0 no_places) l.fn.c;
+      stands : Stands l.el l.cur;
+      layers : length l.places.layers ≡ 16;
+      streams : length l.places.streams ≡ 16;
+      few : l.next ≤ 16;
+      before : l.before ≡ config_before l.next l.places.streams;
+      counted : streams_in l.places.layers l.n l.p ≡ l.next;
+      rows : l.cells ≡ rows_until l.places.layers l.n l.p;
+    }
 
-abbrev pub decreases-loop-left : goal.decreases-loop-left
-decreases-loop-left l = l.n + 1 - l.p + (16 - l.next)
+abbrev pub invariant-loop : goal.invariant-loop
+invariant-loop l =
+    record {
+      whole : told l.el
+          (layers_left l.version l.n (l.end + 1) l.counter (l.p + 1) l.next l.places.layers l.places.streams) l.cur
+          ≡ told l.el (programs l.version (l.n + 1) 0 0 no_places) l.fn.c;
+      stands : Stands l.el l.cur;
+      layers : length l.places.layers ≡ 16;
+      streams : length l.places.streams ≡ 16;
+      few : l.next + (l.end + 1 - l.counter) ≤ 16;
+      before : l.before ≡ config_before l.next l.places.streams;
+      counted : streams_in l.places.layers l.n (l.p + 1) ≡ l.next + (l.end + 1 - l.counter);
+      rows : l.cells ≡ rows_until l.places.layers l.n (l.p + 1);
+    }
