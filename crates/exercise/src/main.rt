@@ -17,7 +17,9 @@ fn one<R: Read, W: Write>(
     more: &mut [u8],
     out: &mut [u8],
 ) -> io::Result<Next> {
-    let kind = number(input, 1)?;
+    let Some(kind) = number(input, 1)? else {
+        return Ok(after(held, false));
+    };
     let r = held.config;
     let goes_on = match kind {
         0x48 => return script_reading::hold(input, held, numbers),

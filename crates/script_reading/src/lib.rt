@@ -5,10 +5,9 @@ use element::{Held, Verdict};
 use record_words::RECORD_WORDS;
 use records::Record;
 use row::Rowed;
-use script::{CUT, map, number, say, say_number, say_refused, say_row, say_word, take, take_words};
+use script::{map, number, say_refused, say_row, take, take_words};
 use std::io;
 use std::io::{Read, Write};
-use sync::Hunted;
 
 // What is then held, and whether the script goes on.
 #[derive(Clone, Copy)]
@@ -28,8 +27,11 @@ pub fn after(held: Held, more: bool) -> Next {
 // H: a record that is lent as held.
 pub fn hold<R: Read>(input: &mut R, held: Held, words: &mut [u32]) -> io::Result<Next> {
     let present = number(input, 1)?;
-    let n = take_words(input, words, RECORD_WORDS)?;
-    if (1 < present) | (n != RECORD_WORDS) {
+    let taken = take_words(input, words, RECORD_WORDS)?;
+    let (Some(present), Some(_)) = (present, taken) else {
+        return Ok(after(held, false));
+    };
+    if present > 1 {
         return Ok(after(held, false));
     }
     let r = record_words::record_in(words);
@@ -41,14 +43,11 @@ pub fn hold<R: Read>(input: &mut R, held: Held, words: &mut [u32]) -> io::Result
 }
 
 fn say_accepted<W: Write>(to: &mut W, items: u32, count: u32, sent: bool) -> io::Result<()> {
-    say(to, b"accepted, items")?;
-    say_word(to, items)?;
-    say(to, b", fields")?;
-    say_word(to, count)?;
-    if sent {
-        return say(to, b", configuration sent\n");
-    }
-    say(to, b", configuration held\n")
+    let whose = if sent { "sent" } else { "held" };
+    writeln!(
+        to,
+        "accepted, items {items}, fields {count}, configuration {whose}"
+    )
 }
 
 fn say_verdict<W: Write>(to: &mut W, v: Verdict, map: &[u32]) -> io::Result<()> {
@@ -85,10 +84,11 @@ pub fn read<R: Read, W: Write>(
 ) -> io::Result<Next> {
     let room = number(input, 2)?;
     let n = take(input, bytes, 2)?;
-    if map.len() < room {
+    let (Some(room), Some(n)) = (room, n) else {
         return Ok(after(held, false));
-    }
-    if bytes.len() < n {
+    };
+    let room = room as usize;
+    if map.len() < room {
         return Ok(after(held, false));
     }
     let new = read_into(to, &bytes[..n], held, &mut map[..room])?;
@@ -122,15 +122,9 @@ pub fn rows<W: Write>(to: &mut W, r: Record) -> io::Result<bool> {
 }
 
 fn say_hunted<W: Write>(to: &mut W, capture: &[u8], start: usize) -> io::Result<()> {
-    let h = sync::hunt(capture, start);
-    match h {
-        Hunted::Found(place, size) => {
-            say(to, b"found")?;
-            say_number(to, place)?;
-            say_number(to, size)?;
-            say(to, b"\n")
-        }
-        Hunted::Refused(x) => say_refused(to, x),
+    match sync::hunt(capture, start) {
+        Ok(h) => writeln!(to, "found {} {}", h.place, h.size),
+        Err(x) => say_refused(to, x),
     }
 }
 
@@ -138,12 +132,9 @@ fn say_hunted<W: Write>(to: &mut W, capture: &[u8], start: usize) -> io::Result<
 pub fn hunt<R: Read, W: Write>(input: &mut R, to: &mut W, bytes: &mut [u8]) -> io::Result<bool> {
     let start = number(input, 4)?;
     let n = take(input, bytes, 3)?;
-    if start == CUT {
+    let (Some(start), Some(n)) = (start, n) else {
         return Ok(false);
-    }
-    if bytes.len() < n {
-        return Ok(false);
-    }
-    say_hunted(to, &bytes[..n], start)?;
+    };
+    say_hunted(to, &bytes[..n], start as usize)?;
     Ok(true)
 }
