@@ -5,7 +5,6 @@ use records::Record;
 use script::{number, output, take, take_words};
 use std::io;
 use std::io::{Read, Write};
-use writer::Written;
 
 // Writes an element into bytes that are set to 7.
 fn write_into<W: Write>(
@@ -18,10 +17,9 @@ fn write_into<W: Write>(
     out: &mut [u8],
 ) -> io::Result<()> {
     output::set_all(out);
-    let w = writer::write(r, send, lengths, payload, other, out);
-    match w {
-        Written::Done(n) => output::say_done(to, out, n),
-        Written::Refused(x) => output::say_stopped(to, out, x),
+    match writer::write(r, send, lengths, payload, other, out) {
+        Ok(n) => output::say_done(to, out, n),
+        Err(x) => output::say_stopped(to, out, x),
     }
 }
 
@@ -48,10 +46,7 @@ pub fn write<R: Read, W: Write>(
         return Ok(false);
     };
     let room = room as usize;
-    if send > 1 {
-        return Ok(false);
-    }
-    if out.len() < room {
+    if send > 1 || out.len() < room {
         return Ok(false);
     }
     write_into(
