@@ -22,20 +22,19 @@ pub struct Item {
 pub fn item_at(map: &[u32], i: usize) -> Item
     ensures { result ≡ item_at map.now i }
 {
-    if i < map.len() / 4 {
-        let at = 4 * i;
-        return Item {
-            kind: map[at],
-            stream: map[at + 1],
-            first: map[at + 2],
-            width: map[at + 3],
-        };
-    }
-    Item {
-        kind: 0,
-        stream: 0,
-        first: 0,
-        width: 0,
+    match map.chunks_exact(4).nth(i) {
+        Some(&[kind, stream, first, width]) => Item {
+            kind,
+            stream,
+            first,
+            width,
+        },
+        _ => Item {
+            kind: 0,
+            stream: 0,
+            first: 0,
+            width: 0,
+        },
     }
 }
 
