@@ -1,6 +1,6 @@
 -- The cases that document 01 marks P, in one table, and the claim that they come out as it says. proofs/Worked.antt has
 -- the theorem.
-use Rattle.std.specs.Prelude.{◌≡◌, Bool, true, false, cond, Option, Some, None, Result, Ok, Err, List, [], ◌∷◌, ◌++◌, ℕ, ◌-◌, ℤ, pos, negsuc, length, drop, replicate}
+use Rattle.std.specs.Prelude.{◌≡◌, Bool, true, false, cond, Some, None, Result, Ok, Err, List, [], ◌∷◌, ◌++◌, ℕ, ◌-◌, ℤ, pos, negsuc, length, drop, replicate}
 use Rattle.kernel.specs.declared.Window.TheVariants.{UpTo}
 use Rattle.kernel.specs.declared.Cursor.{Cursor}
 use Rattle.kernel.specs.declared.Read.{Read}
@@ -51,6 +51,18 @@ from at n = record { at = at; fields = n }
 -- a value, and where the reading of it ends
 abbrev read : {A : Type 0} → A → ℕ → ℕ → Result (Read A) Refusal
 read v at n = Ok (record { value = v; next = from at n })
+
+-- nothing is held
+abbrev pub nothing_held : Held
+nothing_held = None
+
+-- a record that is held,
+abbrev pub holds : Record → Held
+holds r = Some r
+
+-- and one that is held only where a flag says so
+abbrev held_if : Bool → Record → Held
+held_if present r = cond present (holds r) nothing_held
 
 -- a map of 4,368 numbers, as it was lent
 abbrev lent : List ℕ
@@ -181,18 +193,6 @@ figures p l core rate output sbr ps channels = record {
   ps = ps;
   channels = channels;
 }
-
--- nothing is held
-abbrev pub nothing_held : Held
-nothing_held = None
-
--- a record that is held,
-abbrev pub holds : Record → Held
-holds r = Some r
-
--- and one that is held only where a flag says so
-abbrev held_if : Bool → Record → Held
-held_if present r = cond present (holds r) nothing_held
 
 abbrev first_held : Held
 first_held = holds first
