@@ -5,12 +5,12 @@ use mathlib.Core.List.{List, []}
 use Prim.Native.Nat.{ℕ, ◌≤◌}
 use native.Mathlib.Omega.{arith}
 use lib.ListN.{length, get_or}
+use Rattle.std.specs.Prelude.{Result, Ok, Err}
 use Rattle.kernel.specs.declared.Refusal.{Refusal}
 use Rattle.kernel.specs.Bits.{bit}
 use Rattle.element.specs.Held.{Held}
 use Rattle.element.specs.declared.Accepted.{Accepted}
-use Rattle.element.specs.Reply.{accepts}
-use Rattle.element.specs.Reply.{answer, verdict_of}
+use Rattle.element.specs.Reply.{answer, accepts, verdict_of}
 use Rattle.element.proofs.Theorems.{same_when_refused}
 use Rattle.element.proofs.Demands as element
 use Rattle.schilfauge.specs.Lent.{held_in, answer_in, held_after, number_of, answer_words}
@@ -27,9 +27,9 @@ record Accepts (v : Result Accepted Refusal) : Type 0 where
   is : v ≡ accepts items fields sent
 
 -- 0 is no refusal
-accepts : (v : Result Accepted Refusal) → ((x : Refusal) → v ≡ Err x → 1 ≤ x.number) → number_of v ≡ 0 → Accepts v
-accepts (Accepted k n sent) h e = record { items = k; fields = n; sent = sent; is = refl }
-accepts (Err x) h e = absurd (omega (arith, h x refl))
+accepted_by : (v : Result Accepted Refusal) → ((x : Refusal) → v ≡ Err x → 1 ≤ x.number) → number_of v ≡ 0 → Accepts v
+accepted_by (Ok a) h e = record { items = a.items; fields = a.fields; sent = a.sent; is = refl }
+accepted_by (Err x) h e = absurd (omega (arith, h x refl))
 
 record Refuses (v : Result Accepted Refusal) : Type 0 where
   refusal : Refusal
@@ -37,7 +37,7 @@ record Refuses (v : Result Accepted Refusal) : Type 0 where
 
 -- and another number is one
 refuses : (v : Result Accepted Refusal) → ¬ (number_of v ≡ 0) → Refuses v
-refuses (Accepted k n sent) h = absurd (h refl)
+refuses (Ok a) h = absurd (h refl)
 refuses (Err x) h = record { refusal = x; is = refl }
 
 is_sent : (b : Bool) → bit b ≡ 1 → b ≡ true
@@ -53,7 +53,7 @@ module _ (s held map : List ℕ) where
   verdict = verdict_of (answer_in s held (length map))
 
   accepted : number_of verdict ≡ 0 → Accepts verdict
-  accepted = accepts verdict (λ x e. (element.refused_left s (held_in held) map [] x e).0)
+  accepted = accepted_by verdict (λ x e. (element.refused_left s (held_in held) map [] x e).0)
 
   pub refused_told : RefusedTold s held map
   refused_told x e = rw e (refl, refl)
@@ -92,7 +92,7 @@ module _ (s held map : List ℕ) where
       (λ z. omega arith) in
       let found = ap (λ (h : Held). verdict_of (answer t h (length more))) (sym (next_finds_held s held (length map))) in
       element.next_left_is_not_4 s (held_in held) map [] _ _ (a.is
-      ∙ ap (Accepted a.items a.fields) sent) t more [] r.refusal
+      ∙ ap (accepts a.items a.fields) sent) t more [] r.refusal
       (found ∙ r.is) (sym (ap number_of r.is) ∙ four)
 
   pub refused_left : RefusedLeft s held map

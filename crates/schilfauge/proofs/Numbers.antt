@@ -8,6 +8,8 @@ use native.Mathlib.Omega.{arith}
 use lib.Dec.{eqb, ltb}
 use lib.ListN.{length}
 use lib.IntN.{ℤ}
+use Rattle.std.specs.Prelude.{Result, Ok, Err}
+use Rattle.kernel.specs.declared.Refusal.{Refusal}
 use Rattle.kernel.specs.Element.{Answer, accepted, rejected}
 use Rattle.records.specs.Valid.{valid_of}
 use Rattle.sync.specs.declared.Hunted.{Hunted}
@@ -19,7 +21,6 @@ use Rattle.kernel.proofs.Kept.{chosen}
 use Rattle.writer.specs.Written.{Sent, size_of}
 use Rattle.writer.specs.Write.{fits, written_of, out_after}
 use Rattle.schilfauge.specs.Lent.{number_of, found_after, held_after, told_after}
-use Rattle.schilfauge.specs.Lent.{number_of, told_after}
 
 -- ---- of a refusal
 

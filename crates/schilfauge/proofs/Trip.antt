@@ -8,6 +8,8 @@ use native.Mathlib.Omega.{arith}
 use lib.Dec.{leb}
 use lib.ListN.{length, get_or, take}
 use lib.Seq.{take-length, length-take-le}
+use Rattle.std.specs.Prelude.{Some, Result, Ok}
+use Rattle.kernel.specs.declared.Refusal.{Refusal}
 use Rattle.kernel.specs.Bits.{bit}
 use Rattle.kernel.proofs.Lists.{length-tab}
 use Rattle.records.specs.Blank.{no_record}
@@ -28,7 +30,7 @@ use Rattle.writer.proofs.Whole.{not_sent}
 use Rattle.writer.proofs.Back.{shows_back}
 use Rattle.writer.proofs.Theorems.{written_reads_back, bytes_behind_stay, done_is_right}
 use Rattle.schilfauge.specs.Lent.{number_of, found_after, held_in, held_words, held_after, answer_words}
-use Rattle.schilfauge.specs.Lent.{sent_in, number_of, told_after}
+use Rattle.schilfauge.specs.Lent.{sent_in, told_after}
 use Rattle.schilfauge.specs.Promises.{HuntPromise, ReadPromise, FramePromise}
 use Rattle.schilfauge.specs.Claims.{element_in, FoundBack, ReadBack, Trip}
 use Rattle.schilfauge.proofs.Words.{held_laid}

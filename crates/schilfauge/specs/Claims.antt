@@ -1,5 +1,5 @@
 -- What is claimed of the words lent. proofs/Theorems.antt has the theorem of each.
-use Rattle.std.specs.Prelude.{◌≡◌, Bool, true, cond, ◌⊎◌, List, [], ◌∷◌, ◌++◌, ℕ, ◌+◌, ◌^◌, ◌≤◌, ◌<◌, length, get_or, take, drop, replicate, ℤ, pos}
+use Rattle.std.specs.Prelude.{◌≡◌, Bool, true, cond, ◌⊎◌, List, [], ◌∷◌, ◌++◌, ℕ, ◌+◌, ◌^◌, ◌≤◌, ◌<◌, length, get_or, take, drop, replicate, ℤ, pos, Some, Err}
 use Rattle.kernel.specs.declared.Refusal.{Refusal}
 use Rattle.kernel.specs.Bits.{bit}
 use Rattle.kernel.specs.Reading.{Stop}
@@ -19,7 +19,6 @@ use Rattle.writer.specs.Write.{written_of}
 use Rattle.element.specs.Left.{shown}
 use Rattle.writer.specs.Claims.{Shows}
 use Rattle.schilfauge.specs.Lent.{number_of, held_in, held_words, answer_in, held_after, sent_in}
-use Rattle.schilfauge.specs.Lent.{number_of}
 use Rattle.schilfauge.specs.Promises.{HuntPromise, ReadPromise, RowPromise, WritePromise, FramePromise}
 
 -- ---- words laid are found again

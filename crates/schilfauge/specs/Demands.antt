@@ -1,14 +1,13 @@
 -- The demands, of what `schilf_read` leaves behind: its number, the words held, the map and the words told.
 -- proofs/Demands.antt has the theorem of each.
-use Rattle.std.specs.Prelude.{◌≡◌, Bool, List, [], ◌∷◌, ℕ, ◌+◌, ◌*◌, ◌≤◌, ◌<◌, length, get_or}
+use Rattle.std.specs.Prelude.{◌≡◌, Bool, List, [], ◌∷◌, ℕ, ◌+◌, ◌*◌, ◌≤◌, ◌<◌, length, get_or, Result, Err}
 use Rattle.kernel.specs.declared.Refusal.{Refusal}
 use Rattle.kernel.specs.Bits.{bit, bit_at}
 use Rattle.kernel.specs.Reading.{Stop}
 use Rattle.kernel.specs.Element.{Item, Answer, rejected, Tiles, OneItem, InClosed, sum_passed}
 use Rattle.element.specs.declared.Accepted.{Accepted}
-use Rattle.element.specs.Reply.{accepts}
 use Rattle.element.specs.Mux.{Applied}
-use Rattle.element.specs.Reply.{verdict_of, map_after}
+use Rattle.element.specs.Reply.{accepts, verdict_of, map_after}
 use Rattle.element.specs.Left.{shown}
 use Rattle.schilfauge.specs.Lent.{answer_in, held_after, number_of, answer_words}
 use Rattle.schilfauge.specs.Promises.{ReadPromise}

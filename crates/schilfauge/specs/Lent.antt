@@ -1,6 +1,6 @@
 -- What the functions answer, and what then stands in the words lent to them. A refusal is answered by its number, and 0
 -- says that there is none.
-use Rattle.std.specs.Prelude.{Bool, cond, List, [], ◌∷◌, ◌++◌, ℕ, eqb, ltb, get_or, ℤ, pos, true, false, Option, Some, None, Result, Ok, Err}
+use Rattle.std.specs.Prelude.{Bool, cond, List, [], ◌∷◌, ◌++◌, ℕ, eqb, ltb, get_or, ℤ, pos, false, Option, Some, None, Result, Ok, Err}
 use Rattle.kernel.specs.Bits.{bit}
 use Rattle.kernel.specs.Element.{Answer, accepted, rejected}
 use Rattle.records.specs.declared.Record.{Record}

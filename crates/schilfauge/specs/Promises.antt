@@ -8,7 +8,7 @@ use Rattle.element.specs.Reply.{verdict_of, map_after}
 use Rattle.writer.specs.Written.{Sent}
 use Rattle.writer.specs.Write.{written_of, out_after}
 use Rattle.schilfauge.specs.Lent.{number_of, found_after, answer_in, held_after, answer_words, row_number}
-use Rattle.schilfauge.specs.Lent.{row_after, number_of, told_after}
+use Rattle.schilfauge.specs.Lent.{row_after, told_after}
 
 -- of a capture, a start and the words lent; the last is these words afterwards
 abbrev pub HuntPromise : List ℕ → ℕ → List ℕ → ℕ → List ℕ → Type 0

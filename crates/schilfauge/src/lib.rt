@@ -21,7 +21,17 @@ use writer::write;
 // The words held: a record's, and behind them 1 where it is present.
 const HELD_WORDS: usize = RECORD_WORDS + 1;
 
-// The number that a function answers; where nothing was refused, what it tells is stored.
+// The number that a function answers.
+fn number<T: Copy>(answer: Result<T, Refusal>) -> usize
+    ensures { result ≡ number_of answer }
+{
+    match answer {
+        Ok(_) => 0,
+        Err(x) => x.number,
+    }
+}
+
+// The same; where nothing was refused, what is told is stored.
 fn told<T: Copy>(answer: Result<T, Refusal>, to: &mut T) -> usize
     ensures number { result ≡ number_of answer }
     ensures told { to.new ≡ told_after to.old answer }
@@ -40,13 +50,11 @@ fn told<T: Copy>(answer: Result<T, Refusal>, to: &mut T) -> usize
 pub extern "C" fn schilf_hunt(capture: &[u8], start: usize, found: &mut [usize; 2]) -> usize
     ensures { HuntPromise capture.now start found.old result found.new }
 {
-    match hunt(capture, start) {
-        Ok(h) => {
-            *found = [h.place, h.size];
-            0
-        }
-        Err(x) => x.number,
+    let answer = hunt(capture, start);
+    if let Ok(h) = answer {
+        *found = [h.place, h.size];
     }
+    number(answer)
 }
 
 fn held_in(words: &[u32; HELD_WORDS]) -> Option<Record>
@@ -59,6 +67,7 @@ fn held_in(words: &[u32; HELD_WORDS]) -> Option<Record>
     }
 }
 
+#[tactic(auto, using(crate::proofs::Words::laid_held))]
 fn held_words(r: Record) -> [u32; HELD_WORDS]
     ensures { result ≡ held_words r }
 {
@@ -67,25 +76,11 @@ fn held_words(r: Record) -> [u32; HELD_WORDS]
     words
 }
 
-fn read_number(v: Result<Accepted, Refusal>) -> usize
-    ensures { result ≡ number_of v }
-{
-    match v {
-        Ok(_) => 0,
-        Err(x) => x.number,
-    }
-}
-
 fn answer_words(v: Result<Accepted, Refusal>) -> [usize; 4]
     ensures { result ≡ answer_words v }
 {
     match v {
-        Ok(a) => [
-            a.items as usize,
-            0,
-            a.fields as usize,
-            a.sent as usize,
-        ],
+        Ok(a) => [a.items as usize, 0, a.fields as usize, a.sent as usize],
         Err(x) => [0, x.place, x.fields, 0],
     }
 }
@@ -127,7 +122,7 @@ pub extern "C" fn schilf_read(
     let reply = read(element, before, map);
     keep(held, reply.verdict, reply.held);
     *told = answer_words(reply.verdict);
-    read_number(reply.verdict)
+    number(reply.verdict)
 }
 
 fn stream_at(table: [[u8; 8]; 16], program: u32, layer: u32) -> u8
