@@ -47,7 +47,7 @@ pub fn length_bytes(streams: &[Stream], n: usize, ns: &[u32]) -> Option<usize>
 {
     let mut bytes: usize = 0;
     let mut rest = ns;
-    for j in 0..n {
+    for _j in 0..n {
         bytes += row_bytes(streams, rest)?;
         let (_, later) = rest.split_at(streams.len());
         rest = later;

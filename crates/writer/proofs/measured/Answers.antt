@@ -11,8 +11,7 @@ returns-clause-small c =
     let a = c.args in
     let o = record_ok a.r c.requires in
     let few = few_slots (a.r.subframes + 1) c.streams_in-count.result (omega (arith, o.subframes))
-    (omega (arith, c.streams_in-count.ensures, o.count)) in
-    (
+    (omega (arith, c.streams_in-count.ensures, o.count)) in (
       c.in-Some.ensures.small,
       omega (arith, few, sum_all a.ns.now, sum_small a.ns.now (λ i. omega (arith, c.type_inv.ns i))),
     )
