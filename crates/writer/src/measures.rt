@@ -58,7 +58,8 @@ pub fn length_bytes(streams: &[Stream], n: usize, ns: &[u32]) -> Option<usize>
 // The bytes of slots of these lengths.
 pub fn sum_of(ns: &[u32]) -> usize
     requires { length ns.now ≤ 1024 }
-    ensures { result ≡ sum ns.now }
+    ensures is { result ≡ sum ns.now }
+    ensures small { result ≤ 4398046511104 }
 {
     ns.iter().map(|n| *n as usize).sum()
 }
