@@ -3,6 +3,7 @@
 use mathlib.Core.Path.{◌≡◌, refl, ap, sym, ◌∙◌, subst}
 use mathlib.Core.Bool.{Bool, true, false, cond}
 use mathlib.Core.List.{List, [], ◌∷◌, ◌++◌}
+use Rattle.std.proofs.Common.{Result, Ok, Err}
 use Prim.Native.Nat.{ℕ, zero, suc, ◌+◌, ◌-◌, ◌%◌, ◌≤◌, ◌<◌}
 use native.Mathlib.Nat.{zero-add, suc-add}
 use native.Mathlib.Omega.{arith}
@@ -10,7 +11,7 @@ use lib.Dec.{ltb}
 use lib.ListN.{length}
 use Rattle.kernel.specs.Answer.{unread}
 use Rattle.sync.specs.declared.Hunted.{Hunted}
-use Rattle.sync.specs.declared.Hunted.TheVariants.{Found, Refused}
+use Rattle.kernel.specs.declared.Refusal.{Refusal}
 use Rattle.sync.specs.Sync.{first_of, hunt_of}
 use Rattle.sync.proofs.Theorems.{element_is_inside}
 use Rattle.capture.specs.Frames.{Point, Seen, Next, frame, none, behind, then_frames, seen_at, next_by, next_of}
@@ -41,9 +42,9 @@ module _ (s : List ℕ) (room : ℕ) where
   abbrev pub InsideFrom : ℕ → Seen → Type 0
   InsideFrom at m = (at ≤ m.place) × (1 ≤ m.size) × (m.place + 3 + m.size ≤ length s) × (length s ≤ 65536)
 
-  found_inside : (c : Point) (h : Hunted) → hunt_of s c.at ≡ h → OfNext (InsideFrom c.at) (next_by s room c h)
-  found_inside c (Found p n) e = let i = element_is_inside s c.at p n e in (i.0, i.1, i.2, i.3)
-  found_inside c (Refused x) e = tt
+  found_inside : (c : Point) (h : Result Hunted Refusal) → hunt_of s c.at ≡ h → OfNext (InsideFrom c.at) (next_by s room c h)
+  found_inside c (Ok h) e = let i = element_is_inside s c.at h.place h.size e in (i.0, i.1, i.2, i.3)
+  found_inside c (Err x) e = tt
 
   pub next_inside : (c : Point) (m : Seen) → next_of s room c ≡ frame m → InsideFrom c.at m
   next_inside c m e = subst (OfNext (InsideFrom c.at)) e (found_inside c (hunt_of s c.at) refl)
@@ -53,7 +54,7 @@ module _ (s : List ℕ) (room : ℕ) where
   unfolding first_of
   none_behind c h =
       let e : length s - c.at ≡ 0 = omega arith in
-      let g : hunt_of s c.at ≡ Refused (unread 20) = rw e (either_way (ltb 65536 (length s)) (Refused (unread 20))) in
+      let g : hunt_of s c.at ≡ Err (unread 20) = rw e (either_way (ltb 65536 (length s)) (Err (unread 20))) in
       ap (next_by s room c) g
 
   no_more : (k : ℕ) (c : Point) → next_of s room c ≡ none → frames_from s room k c ≡ []
@@ -146,18 +147,18 @@ module _ (s : List ℕ) (room : ℕ) where
 
   -- what holds of every frame that may be seen holds of each frame of a capture
   module _ (P : Seen → Type 0) (f : (c : Point) (p n : ℕ) → c.number ≤ 65536 → P (seen_at s room c p n)) where
-    seen_next : (c : Point) → c.number ≤ 65536 → (h : Hunted) → OfNext P (next_by s room c h)
-    seen_next c few (Found p n) = f c p n few
-    seen_next c few (Refused x) = tt
+    seen_next : (c : Point) → c.number ≤ 65536 → (h : Result Hunted Refusal) → OfNext P (next_by s room c h)
+    seen_next c few (Ok h) = f c h.place h.size few
+    seen_next c few (Err x) = tt
 
     pub each_frame : (k : ℕ) (c : Point) → c.number ≤ 65536 → OfEach P (frames_from s room k c)
     each_frame =
         frames_by (λ c ms. c.number ≤ 65536 → OfEach P ms) (λ c few. tt)
         (λ c m ms e ih few. (subst (OfNext P) e (seen_next c few (hunt_of s c.at)), ih (omega arith)))
 
-  of_place : (c : Point) (h : Hunted) → OfNext (From c) (next_by s room c h)
-  of_place c (Found p n) = (refl, refl)
-  of_place c (Refused x) = tt
+  of_place : (c : Point) (h : Result Hunted Refusal) → OfNext (From c) (next_by s room c h)
+  of_place c (Ok h) = (refl, refl)
+  of_place c (Err x) = tt
 
   pub next_from : (c : Point) → OfNext (From c) (next_of s room c)
   next_from c = of_place c (hunt_of s c.at)

@@ -1,9 +1,9 @@
 -- What is claimed of the frames of a capture. proofs/Theorems.antt has the theorem of each.
-use Rattle.std.specs.Prelude.{◌≡◌, true, List, [], ◌∷◌, ◌++◌, ℕ, ◌+◌, ◌≤◌, length}
+use Rattle.std.specs.Prelude.{◌≡◌, true, List, [], ◌∷◌, ◌++◌, ℕ, ◌+◌, ◌≤◌, length, Option}
 use Rattle.capture.specs.declared.Mark.{Mark}
 use Rattle.capture.specs.declared.Step.{Step}
 use Rattle.capture.specs.Frames.{Point, Seen, frame, start, next_of, frames_from, frames_of, behind_all, OfPoint}
-use Rattle.capture.specs.Frames.{holding_of, point_then, step_of, holding_behind}
+use Rattle.capture.specs.Frames.{holding_of, point_then, step_of, holding_then}
 use Rattle.capture.specs.Blocks.{block_room, Report, text_of, block_end, is_last, blocks}
 use Rattle.capture.specs.Promises.{AdvancePromise}
 
@@ -47,11 +47,11 @@ BlocksAreWhole = (S : Type 0) (w : Report S) (size : ℕ) (s : List ℕ) (room :
 
 -- the promise of `advance` allows one answer, one map and one table
 abbrev pub AdvancedOnce : Type 0
-AdvancedOnce = (s : List ℕ) (mark : Mark) (map map₁ map₂ : List ℕ) (table table₁ table₂ : List (List ℕ)) (x y : Step)
+AdvancedOnce = (s : List ℕ) (mark : Mark) (map map₁ map₂ : List ℕ) (table table₁ table₂ : List (List ℕ)) (x y : Option Step)
     → OfPoint mark → AdvancePromise s mark map table x map₁ table₁ → AdvancePromise s mark map table y map₂ table₂
     → (x ≡ y) × (map₁ ≡ map₂) × (table₁ ≡ table₂)
 
 -- a step leads on what is held, too: from the holding of a point to that of the point behind the frame
 abbrev pub HoldingFollows : Type 0
 HoldingFollows = (s : List ℕ) (room : ℕ) (c : Point) → let x = next_of s room c in
-    holding_behind (holding_of c) (step_of c x) ≡ holding_of (point_then c x)
+    holding_then (holding_of c) (step_of x) ≡ holding_of (point_then c x)

@@ -1,19 +1,16 @@
 -- The frames of a capture one after the other, each with the answer to its element, and what is held over them.
-use Rattle.std.specs.Prelude.{◌≡◌, List, [], ◌∷◌, ℕ, zero, suc, ◌+◌, ◌%◌, length}
+use Rattle.std.specs.Prelude.{◌≡◌, List, [], ◌∷◌, ℕ, zero, suc, ◌+◌, ◌%◌, length, Option, Some, None, Result, Ok, Err}
+use Rattle.std.specs.Option.{option_or}
 use Rattle.kernel.specs.Element.{Answer}
-use Rattle.records.specs.declared.Record.{Record}
-use Rattle.records.specs.Blank.{no_record}
+use Rattle.kernel.specs.declared.Refusal.{Refusal}
 use Rattle.sync.specs.declared.Hunted.{Hunted}
-use Rattle.sync.specs.declared.Hunted.TheVariants as hunted
 use Rattle.sync.specs.Sync.{hunt_of, element_at}
-use Rattle.element.specs.declared.Held.{Held}
+use Rattle.element.specs.Held.{Held}
 use Rattle.element.specs.Mux.{Applied}
-use Rattle.element.specs.Reply.{nothing_held, answer, held_after, verdict_of, sent_by, held_by, map_after, table_after}
+use Rattle.element.specs.Reply.{answer, held_after, verdict_of, sent_by, map_after, table_after}
 use Rattle.reader.specs.Prepared.{prepared_of}
 use Rattle.capture.specs.declared.Mark.{Mark}
 use Rattle.capture.specs.declared.Holding.{Holding}
-use Rattle.capture.specs.declared.Found.{Found}
-use Rattle.capture.specs.declared.Found.TheVariants.{Frame, End}
 use Rattle.capture.specs.declared.Step.{Step}
 
 -- where a capture is come to: the byte from which the next frame is hunted, the number of its element, what is held
@@ -38,7 +35,7 @@ pub data Next : Type 0 where
 
 -- where every capture begins
 abbrev pub start : Point
-start = record { at = 0; number = 0; held = nothing_held }
+start = record { at = 0; number = 0; held = None }
 
 -- where a capture is come to behind a frame; of no capture has an element a number that the remainder changes
 -- (`NumbersInOrder`)
@@ -66,9 +63,9 @@ module _ (s : List ℕ) (room : ℕ) where
   }
 
   -- by what a hunt found
-  abbrev pub next_by : Point → Hunted → Next
-  next_by c (hunted.Found p n) = frame (seen_at c p n)
-  next_by c (hunted.Refused x) = none
+  abbrev pub next_by : Point → Result Hunted Refusal → Next
+  next_by c (Ok h) = frame (seen_at c h.place h.size)
+  next_by c (Err x) = none
 
   -- the first frame at or behind a place
   abbrev pub next_of : Point → Next
@@ -114,36 +111,34 @@ point_of h = record { at = h.mark.at; number = h.mark.number; held = h.held }
 abbrev pub Whole : Holding → Type 0
 Whole h = h ≡ holding_of (point_of h)
 
--- what is found of the next frame,
-abbrev pub found_by : Next → Found
-found_by (frame m) = Frame m.place m.size (verdict_of m.reading)
-found_by none = End
-
--- what it sent, or the blank record
-abbrev pub sent_in : Next → Record
-sent_in (frame m) = sent_by m.reading
-sent_in none = no_record
-
--- and where the capture is then come to
+-- where the capture is come to behind the next frame, if there is one
 abbrev pub point_then : Point → Next → Point
 point_then c (frame m) = behind m
 point_then c none = c
 
--- what is held behind what was found, by the verdict and the configuration that was sent
-abbrev pub held_from : Held → Found → Record → Held
-held_from held (Frame p n v) sent = held_by held v sent
-held_from held End sent = held
+-- the step over a frame
+abbrev pub step_over : Seen → Step
+step_over m = record {
+  place = m.place;
+  size = m.size;
+  verdict = verdict_of m.reading;
+  sent = sent_by m.reading;
+  next = mark_of (behind m);
+}
 
--- what `advance` answers and leaves, by the next frame
-abbrev pub step_of : Point → Next → Step
-step_of c x = record { found = found_by x; sent = sent_in x; next = mark_of (point_then c x) }
+-- what `advance` answers, by the next frame
+abbrev pub step_of : Next → Option Step
+step_of (frame m) = Some (step_over m)
+step_of none = None
 
 -- and what is then kept by who keeps what is held
 abbrev pub holding_behind : Holding → Step → Holding
-holding_behind from step = record {
-  mark = step.next;
-  held = held_from from.held step.found step.sent;
-}
+holding_behind from step = record { mark = step.next; held = option_or step.sent from.held }
+
+-- as it stays where there is no step
+abbrev pub holding_then : Holding → Option Step → Holding
+holding_then from (Some step) = holding_behind from step
+holding_then from None = from
 
 -- the map lent, afterwards: as it stood where there is no frame
 abbrev pub map_by : List ℕ → Next → List ℕ

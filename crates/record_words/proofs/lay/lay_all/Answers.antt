@@ -8,6 +8,6 @@ returns c =
     let s = c in
     let l = s in
     let h = l in (
-      omega (arith, h.lay_head-head.ensures.0, l.lay_layers-first.ensures.0, s.lay_streams.ensures.0),
-      stored_then h.lay_head-head.ensures.1 (stored_then l.lay_layers-first.ensures.1 s.lay_streams.ensures.1),
+      omega (arith, h.lay_head-head.ensures.0, l.lay-first.ensures.0, s.lay_streams.ensures.0),
+      stored_then h.lay_head-head.ensures.1 (stored_then l.lay-first.ensures.1 s.lay_streams.ensures.1),
     )
