@@ -1,12 +1,12 @@
 -- What `write` answers, by its tests.
 use mathlib.Core.Path.{◌≡◌, refl, sym, ◌∙◌, ap}
-use mathlib.Core.Bool.{Bool, true, false, cond, ◌&&◌}
+use mathlib.Core.Bool.{Bool, true, false, cond}
 use mathlib.Core.Logic.{◌⊎◌, inl, inr}
 use mathlib.Core.List.{List, [], ◌∷◌, ◌++◌, append-nil, append_assoc}
 use Prim.Native.Nat.{ℕ, zero, suc, ◌+◌, ◌-◌, ◌*◌, ◌/◌, ◌%◌, ◌≤◌, ◌<◌}
 use native.Mathlib.Nat.{zero-add, zero-mul, suc-mul, mul-le-mul_left}
 use native.Mathlib.Omega.{arith}
-use borrow.Author.Tests.{eq-eqb, ne_eqb, lt-ltb, le-ltb}
+use borrow.Author.Tests.{eq-eqb, lt-ltb, le-ltb}
 use lib.Dec.{eqb}
 use lib.ListN.{length, get_or, drop, length-append}
 use lib.Seq.{get_or-drop, length-take-le}
@@ -47,24 +47,7 @@ module _ (w : Sent) (room : ℕ) where
       → Ok (size_of w) ≡ written_of w room
   written_done e f h k = rw (e, f, le-ltb 8191 (size_of w) h, le-ltb room (size_of w) k)
 
--- ---- what 17 refuses
-
-module _ (w : Sent) (count : ℕ) (some : count ≡ length (streams_of w.config)) where
-  pub number_no : (length w.lengths ≡ (w.config.subframes + 1) * count → ⊥) → fits w ≡ false
-  number_no n =
-      let m : length w.lengths ≡ (w.config.subframes + 1) * length (streams_of w.config)
-      → ⊥ = λ e. n (rw some e) in
-      rw (ne_eqb (length w.lengths) ((w.config.subframes + 1) * length (streams_of w.config)) m)
-
-  pub number_yes : length w.lengths ≡ (w.config.subframes + 1) * count
-      → fits w ≡ (slots_fit (w.config.subframes + 1) (streams_of w.config) w.lengths
-      && (eqb (length w.payload) (sum_of ((w.config.subframes + 1) * length (streams_of w.config)) w.lengths)
-      && eqb (length w.other) (other_bytes w.config)))
-  number_yes n =
-      let e : length w.lengths ≡ (w.config.subframes + 1) * length (streams_of w.config) = rw (sym some) n in
-      rw (eq-eqb (length w.lengths) _ e, e)
-
--- ---- what it does not
+-- ---- what 17 does not refuse
 
 slot_fits_law : (s : Stream) (n : ℕ) → (s.kind ≡ 0) ⊎ (n ≡ s.fixed + 20) → slot_fits s n ≡ true
 slot_fits_law s n (inl e) = rw (eq-eqb s.kind 0 e)

@@ -11,7 +11,7 @@ pub length_bytes_allows_one : AllowsOne length_bytes.Learnt (λ k r e. r)
 length_bytes_allows_one k a x y e f p q = p.0 ∙ sym q.0
 
 pub sum_of_allows_one : AllowsOne sum_of.Learnt (λ k r e. r)
-sum_of_allows_one k a x y e f p q = p ∙ sym q
+sum_of_allows_one k a x y e f p q = p.0 ∙ sym q.0
 
 pub other_bytes_allows_one : AllowsOne other_bytes.Learnt (λ k r e. r)
 other_bytes_allows_one k a x y e f p q = p ∙ sym q

@@ -26,7 +26,7 @@ fn put_length(w: &mut BitWriter, n: u32)
     requires { Room 264 w.old × (n ≤ 8191) }
     ensures { Puts w.old (length_bits n) 264 w.new }
 {
-    for k in 0..n / 255 {
+    for _k in 0..n / 255 {
         w.put(8, 255);
     }
     w.put(8, n % 255);
@@ -55,7 +55,7 @@ fn put_subframes(w: &mut BitWriter, streams: &[Stream], n: usize, ns: &[u32], pa
 {
     let mut lengths = ns;
     let mut bytes = payload;
-    for j in 0..n {
+    for _j in 0..n {
         put_lengths(w, streams, lengths);
         let (row, later) = lengths.split_at(streams.len());
         let (now, behind) = bytes.split_at(sum_of(row));

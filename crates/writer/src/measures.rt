@@ -47,7 +47,7 @@ pub fn length_bytes(streams: &[Stream], n: usize, ns: &[u32]) -> Option<usize>
 {
     let mut bytes: usize = 0;
     let mut rest = ns;
-    for j in 0..n {
+    for _j in 0..n {
         bytes += row_bytes(streams, rest)?;
         let (_, later) = rest.split_at(streams.len());
         rest = later;
@@ -58,7 +58,8 @@ pub fn length_bytes(streams: &[Stream], n: usize, ns: &[u32]) -> Option<usize>
 // The bytes of slots of these lengths.
 pub fn sum_of(ns: &[u32]) -> usize
     requires { length ns.now ≤ 1024 }
-    ensures { result ≡ sum ns.now }
+    ensures is { result ≡ sum ns.now }
+    ensures small { result ≤ 4398046511104 }
 {
     ns.iter().map(|n| *n as usize).sum()
 }

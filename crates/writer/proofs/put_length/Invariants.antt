@@ -8,6 +8,6 @@ use Rattle.writer.proofs.put_length.Given as goal
 abbrev pub invariant-loop-k : goal.invariant-loop-k
 invariant-loop-k l =
     record {
-      most : l.w.at ≤ l.fn.w.at + 8 * l.k;
-      left : Left l.fn.w (length_bits l.n) l.w (length_left l.n l.k)
+      most : l.w.at ≤ l.fn.w.at + 8 * l._k;
+      left : Left l.fn.w (length_bits l.n) l.w (length_left l.n l._k);
     }

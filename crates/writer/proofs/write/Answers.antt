@@ -21,8 +21,7 @@ returns-then-out-size c =
     let a = c.args in
     let w = to_send a.r a.send a.lengths.now a.payload.now a.other.now in
     let v = sym c.valid.ensures ∙ c.if-not-valid.false in
-    let s = sized w c.in_ok-bytes.bytes v c.in_ok-bytes.ensures.is in
-    (
+    let s = sized w c.in_ok-bytes.bytes v c.in_ok-bytes.ensures.is in (
       ap Err c.unread-then-out-size.ensures
           ∙ written_19 w (length a.out.now) v s.0 (omega (arith, s.1, c.size_of-size.ensures)) (omega (arith, s.1, c.size_of-size.ensures)),
       refl,
@@ -44,9 +43,8 @@ returns c =
     let s = sized w c.in_ok-bytes.bytes v c.in_ok-bytes.ensures.is in
     let n : c.size_of-size.result ≡ size_of w = c.size_of-size.ensures ∙ s.1 in
     let p : Put a.out.now 0 (element_bits w) c.put_element.new.out (length (element_bits w)) =
-    record { next = omega arith; bits = c.put_element.ensures } in
-    (
+    record { next = omega arith; bits = c.put_element.ensures } in (
       ap Ok n ∙ written_done w (length a.out.now) v s.0 (omega (arith, n)) (omega (arith, n)),
       rw n (put_front (size_of w) (whole_bytes w (fits_are w s.0)) (omega (arith, n)) (λ i. search rules)
-      (λ i. omega (arith, c.type_inv.out i)) p),
+          (λ i. omega (arith, c.type_inv.out i)) p),
     )

@@ -8,5 +8,5 @@ abbrev pub invariant-loop-s : goal.invariant-loop-s
 invariant-loop-s l =
     (goal.iterator-loop-s).can_next l.s-iterator × (goal.iterator-loop-s).is_finite l.s-iterator × record {
       whole : bytes_left l.streams l.ns (length l.yielded) l.bytes ≡ row_if_fit l.streams l.ns;
-      small : l.bytes ≤ 16843010 * length l.yielded
+      small : l.bytes ≤ 16843010 * length l.yielded;
     }
