@@ -5,7 +5,6 @@ use mathlib.Core.List.{List}
 use Prim.Native.Nat.{ℕ, ◌<◌, ◌≤◌}
 use lib.ListN.{length}
 use Rattle.kernel.specs.Lists.{Stored}
-use Rattle.element.specs.declared.Verdict.{Verdict}
 use Rattle.capture.specs.declared.Holding.{Holding}
 use Rattle.capture.specs.declared.Step.{Step}
 use Rattle.capture.specs.Frames.{Point, frames_of, behind_all, holding_of, point_of, Whole}
@@ -18,26 +17,26 @@ use Rattle.summary_blocks.specs.Laid.{verdict_text, verdict_said, BlockPromise}
 use Rattle.summary_blocks.proofs.Texts.{shown_is, said_is}
 
 -- the step of a block took a frame: its lines, and what is then said, are those of its verdict
-module _ {s : List ℕ} {c : Point} {map map' : List ℕ} {table table' : List (List ℕ)} {v : Verdict} {r : Step}
-    (t : Took s 4368 c map map' table table' v r) (said : Bool) where
+module _ {s : List ℕ} {c : Point} {map map' : List ℕ} {table table' : List (List ℕ)} {r : Step}
+    (t : Took s 4368 c map map' table table' r) (said : Bool) where
   pub laid_frame : {out out' : List ℕ} {at to : ℕ}
-      → Stored out at (verdict_text c.number c.held said v r.sent table') out' to
+      → Stored out at (verdict_text c.number c.held said r.verdict r.sent table') out' to
       → Stored out at (lines.text said t.seen) out' to
   laid_frame {out} {out'} {at} {to} p =
-      let e : verdict_text c.number c.held said v r.sent table' ≡ lines.text said t.seen =
-      rw (t.verdict, t.step, t.table_after_law, t.number, t.before)
+      let e : verdict_text c.number c.held said r.verdict r.sent table' ≡ lines.text said t.seen =
+      rw (t.step, t.table_after_law, t.number, t.before)
       (shown_is c.number c.held said table t.seen.reading) in
       subst (λ (b : List ℕ). Stored out at b out' to) e p
 
-  pub said_then : verdict_said said v ≡ lines.after said t.seen
-  said_then = rw t.verdict (said_is said t.seen.reading)
+  pub said_then : verdict_said said r.verdict ≡ lines.after said t.seen
+  said_then = rw t.step (said_is said t.seen.reading)
 
 -- a loop that lays a block, from the point c₀ on, with the map and the bytes that it was lent
-pub record Going (s out₀ : List ℕ) (before : Bool) (c₀ : Point) (map out : List ℕ) (reached : Holding) (said : Bool)
-    (used : ℕ) : Type 0 where
-  pub rooms : Rooms 4368 (block_room (length out₀)) out₀ map out used
-  pub whole : Whole reached
-  pub left : Left lines (block_room (length out₀)) s 4368 out₀ before c₀ out used said (point_of reached)
+pub record Going (s out₀ : List ℕ) (before : Bool) (c₀ : Point) (map out : List ℕ) (b : Block) : Type 0 where
+  pub rooms : Rooms 4368 (block_room (length out₀)) out₀ map out b.bytes
+  pub whole : Whole b.reached
+  pub left : Left lines (block_room (length out₀)) s 4368 out₀ before c₀ out b.bytes b.said (point_of b.reached)
+  pub on : b.ended ≡ false
 
 -- what was laid is a block
 pub block_laid : {s out out' : List ℕ} {used : ℕ} {from : Point} {reached : Holding} {before said t : Bool}

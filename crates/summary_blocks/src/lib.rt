@@ -2,70 +2,66 @@
 // refused element.
 #![tactic(auto)]
 
-ghost use Rattle.std.specs.Prelude.{◌≡◌, cond, not, ◌&&◌, [], ◌+◌, ◌≤◌, eqb, length};
+ghost use Rattle.std.specs.Prelude.{◌≡◌, cond, [], ◌+◌, ◌≤◌, length};
 ghost use Rattle.kernel.specs.Lists.{Stored};
-ghost use Rattle.records.specs.Same.{same_record};
 ghost use Rattle.capture.specs.Frames.{point_of, Whole};
-ghost use Rattle.summary_blocks.specs.Summary.{first_wanting, refusal_text, head_text, no_frame_text, over_text};
-ghost use Rattle.summary_blocks.specs.Summary.{end_text};
+ghost use Rattle.summary_blocks.specs.Summary.{first_wanting, refusal_text, head_text, end_text};
 ghost use Rattle.summary_blocks.specs.Laid.{accepted_by, verdict_text, verdict_said, BlockPromise};
 
-use capture::{Found, Holding, advance, block_room, holding_behind};
-use element::{Held, Verdict};
+use capture::{Holding, advance, block_room, holding_behind};
+use element::Accepted;
 use kernel::{Refusal, lay};
-use records::{Record, same_record};
+use records::Record;
 use summary_lines::{lay_refused, lay_rows};
 
-fn changed(held: Held, r: Record) -> bool
-    ensures { result ≡ not (held.present && same_record held.config r) }
-{
-    let before = held.config;
-    !(held.present & same_record(before, r))
-}
-
 // Records are compared only where one was sent.
+#[tactic(auto, using(records::proofs::Derived::record_is))]
 fn lay_accepted(
     out: &mut [u8],
     at: usize,
     element: usize,
-    held: Held,
-    sent: bool,
-    r: Record,
+    held: Option<Record>,
+    sent: Option<Record>,
     table: [[u8; 8]; 16],
 ) -> usize
     requires { at + 14336 ≤ 1000000 }
     ensures { (result ≤ at + 14336)
-        × Stored out.old at (accepted_by element held sent r table) out.new result }
+        × Stored out.old at (accepted_by element held sent table) out.new result }
 {
-    if !sent {
-        return at;
+    match sent {
+        Some(r) if held != sent => lay_rows(out, at, element, r, table),
+        _ => at,
     }
-    if changed(held, r) {
-        return lay_rows(out, at, element, r, table);
-    }
-    at
 }
 
+// Words, where they are to be said.
+fn lay_if(out: &mut [u8], at: usize, said: bool, words: &[u8]) -> usize
+    requires { at + length words.now ≤ 1000000 }
+    ensures { (result ≤ at + length words.now)
+        × Stored out.old at (cond said words.now []) out.new result }
+{
+    if said { lay(out, at, words) } else { at }
+}
+
+#[tactic(auto, using(kernel::proofs::Lists::stored_then))]
 fn lay_refusal(out: &mut [u8], at: usize, element: usize, wanting: bool, x: Refusal) -> usize
     requires { at + 187 ≤ 1000000 }
     ensures { (result ≤ at + 187)
         × Stored out.old at (refusal_text element wanting x) out.new result }
 {
-    if wanting {
-        let a = lay(
-            out,
-            at,
-            b"no configuration yet: elements cannot be read until one is sent\n",
-        );
-        return lay_refused(out, a, element, x);
-    }
-    lay_refused(out, at, element, x)
+    let a = lay_if(
+        out,
+        at,
+        wanting,
+        b"no configuration yet: elements cannot be read until one is sent\n",
+    );
+    lay_refused(out, a, element, x)
 }
 
 fn first_wanting(said: bool, x: Refusal) -> bool
     ensures { result ≡ first_wanting said x }
 {
-    !said & (x.number == 4)
+    !said && x.number == 4
 }
 
 // The lines of an element, by its verdict and what a reading left.
@@ -73,31 +69,28 @@ fn lay_verdict(
     out: &mut [u8],
     at: usize,
     element: usize,
-    held: Held,
+    held: Option<Record>,
     said: bool,
-    v: Verdict,
-    r: Record,
+    verdict: Result<Accepted, Refusal>,
+    sent: Option<Record>,
     table: [[u8; 8]; 16],
 ) -> usize
     requires { at + 14336 ≤ 1000000 }
     ensures { (result ≤ at + 14336)
-        × Stored out.old at (verdict_text element held said v r table) out.new result }
+        × Stored out.old at (verdict_text element held said verdict sent table) out.new result }
 {
-    match v {
-        Verdict::Accepted(_, _, sent) => lay_accepted(out, at, element, held, sent, r, table),
-        Verdict::Refused(x) => {
-            let wanting = first_wanting(said, x);
-            lay_refusal(out, at, element, wanting, x)
-        }
+    match verdict {
+        Ok(_) => lay_accepted(out, at, element, held, sent, table),
+        Err(x) => lay_refusal(out, at, element, first_wanting(said, x), x),
     }
 }
 
-fn said_after(said: bool, v: Verdict) -> bool
-    ensures { result ≡ verdict_said said v }
+fn said_after(said: bool, verdict: Result<Accepted, Refusal>) -> bool
+    ensures { result ≡ verdict_said said verdict }
 {
-    match v {
-        Verdict::Accepted(_, _, _) => said,
-        Verdict::Refused(x) => said | first_wanting(said, x),
+    match verdict {
+        Ok(_) => said,
+        Err(x) => said || first_wanting(said, x),
     }
 }
 
@@ -116,44 +109,49 @@ pub struct Block {
 fn lay_frames(
     capture: &[u8],
     from: Holding,
-    before: bool,
+    said: bool,
     map: &mut [u32],
     table: &mut [[u8; 8]; 16],
     out: &mut [u8],
 ) -> Block
     requires { (length map.old ≡ 4368) × Whole from }
-    ensures block { BlockPromise capture.now (point_of from) before
+    ensures block { BlockPromise capture.now (point_of from) said
         out.old result out.new }
     ensures few { result.bytes ≤ length out.old }
 {
     let room = block_room(out.len());
-    let mut reached = from;
-    let mut said = before;
-    let mut used: usize = 0;
-    while used + 14336 <= room {
-        let mark = reached.mark;
-        let step = advance(capture, mark, map, table);
-        let found = step.found;
-        let Found::Frame(_, _, v) = found else {
+    let mut block = Block {
+        reached: from,
+        said: said,
+        bytes: 0,
+        ended: false,
+    };
+    while block.bytes + 14336 <= room {
+        let mark = block.reached.mark;
+        let Some(step) = advance(capture, mark, map, table) else {
             return Block {
-                reached: reached,
-                said: said,
-                bytes: used,
                 ended: true,
+                ..block
             };
         };
-        let sent = step.sent;
-        let filled = *table;
-        used = lay_verdict(out, used, mark.number, reached.held, said, v, sent, filled);
-        said = said_after(said, v);
-        reached = holding_behind(reached, step);
+        let bytes = lay_verdict(
+            out,
+            block.bytes,
+            mark.number,
+            block.reached.held,
+            block.said,
+            step.verdict,
+            step.sent,
+            *table,
+        );
+        block = Block {
+            reached: holding_behind(block.reached, step),
+            said: said_after(block.said, step.verdict),
+            bytes: bytes,
+            ended: false,
+        };
     }
-    Block {
-        reached: reached,
-        said: said,
-        bytes: used,
-        ended: false,
-    }
+    block
 }
 
 // The lines of as many frames as a block is sure to have room for, from a place of a capture on.
@@ -170,6 +168,7 @@ pub fn lay_block(capture: &[u8], from: Holding, said: bool, out: &mut [u8]) -> B
 }
 
 // The first line.
+#[tactic(auto, using(summary_lines::proofs::Laid::in_parts))]
 pub fn lay_head(out: &mut [u8]) -> usize
     ensures { (result ≡ 112) × Stored out.old 0 head_text out.new result }
 {
@@ -185,33 +184,21 @@ pub fn lay_head(out: &mut [u8]) -> usize
     )
 }
 
-fn lay_no_frame(out: &mut [u8], frames: usize) -> usize
-    ensures { (result ≤ 38) × Stored out.old 0 (cond (eqb frames 0) no_frame_text []) out.new result }
-{
-    if frames == 0 {
-        return lay(out, 0, b"no frame in this capture (refusal 20)\n");
-    }
-    0
-}
-
-fn lay_over(out: &mut [u8], at: usize, over: bool) -> usize
-    requires { at + 71 ≤ 1000000 }
-    ensures { (result ≤ at + 71) × Stored out.old at (cond over over_text []) out.new result }
-{
-    if over {
-        return lay(
-            out,
-            at,
-            b"the capture is longer than 65536 bytes: only the first 65536 were read\n",
-        );
-    }
-    at
-}
-
 // The last lines, by the number of frames and whether the capture was cut off.
+#[tactic(auto, using(summary_lines::proofs::Laid::in_parts))]
 pub fn lay_end(out: &mut [u8], frames: usize, over: bool) -> usize
     ensures { (result ≤ 109) × Stored out.old 0 (end_text frames over) out.new result }
 {
-    let a = lay_no_frame(out, frames);
-    lay_over(out, a, over)
+    let a = lay_if(
+        out,
+        0,
+        frames == 0,
+        b"no frame in this capture (refusal 20)\n",
+    );
+    lay_if(
+        out,
+        a,
+        over,
+        b"the capture is longer than 65536 bytes: only the first 65536 were read\n",
+    )
 }
