@@ -13,17 +13,17 @@ use Rattle.capture.proofs.Steps.{Took}
 use Rattle.capture.proofs.Blocks.{Left, Laid, Rooms, end_ahead, last_end, further_on}
 use Rattle.summary_blocks.specs.declared.Block.{Block}
 use Rattle.summary_blocks.specs.Summary.{lines}
-use Rattle.summary_blocks.specs.Laid.{verdict_text, verdict_said, BlockPromise}
+use Rattle.summary_blocks.specs.Laid.{step_text, verdict_said, BlockPromise}
 use Rattle.summary_blocks.proofs.Texts.{shown_is, said_is}
 
 -- the step of a block took a frame: its lines, and what is then said, are those of its verdict
 module _ {s : List ℕ} {c : Point} {map map' : List ℕ} {table table' : List (List ℕ)} {r : Step}
     (t : Took s 4368 c map map' table table' r) (said : Bool) where
   pub laid_frame : {out out' : List ℕ} {at to : ℕ}
-      → Stored out at (verdict_text c.number c.held said r.verdict r.sent table') out' to
+      → Stored out at (step_text c said r table') out' to
       → Stored out at (lines.text said t.seen) out' to
   laid_frame {out} {out'} {at} {to} p =
-      let e : verdict_text c.number c.held said r.verdict r.sent table' ≡ lines.text said t.seen =
+      let e : step_text c said r table' ≡ lines.text said t.seen =
       rw (t.step, t.table_after_law, t.number, t.before)
       (shown_is c.number c.held said table t.seen.reading) in
       subst (λ (b : List ℕ). Stored out at b out' to) e p

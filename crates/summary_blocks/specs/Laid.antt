@@ -6,6 +6,7 @@ use Rattle.kernel.specs.declared.Refusal.{Refusal}
 use Rattle.element.specs.Held.{Held}
 use Rattle.element.specs.declared.Accepted.{Accepted}
 use Rattle.summary_lines.specs.Lines.{programs_text}
+use Rattle.capture.specs.declared.Step.{Step}
 use Rattle.capture.specs.Frames.{Point, holding_of}
 use Rattle.capture.specs.Blocks.{block_room, block_text, block_end, block_state, is_last}
 use Rattle.summary_blocks.specs.declared.Block.{Block}
@@ -20,6 +21,10 @@ accepted_by element held None table = []
 abbrev pub verdict_text : ℕ → Held → Bool → Result Accepted Refusal → Held → List (List ℕ) → List ℕ
 verdict_text element held said (Ok a) sent table = accepted_by element held sent table
 verdict_text element held said (Err x) sent table = refusal_text element (first_wanting said x) x
+
+-- of the element that a step from a point read
+abbrev pub step_text : Point → Bool → Step → List (List ℕ) → List ℕ
+step_text c said step table = verdict_text c.number c.held said step.verdict step.sent table
 
 -- whether the want of a configuration was said, behind it
 abbrev pub verdict_said : Bool → Result Accepted Refusal → Bool

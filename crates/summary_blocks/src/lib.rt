@@ -6,9 +6,9 @@ ghost use Rattle.std.specs.Prelude.{◌≡◌, cond, [], ◌+◌, ◌≤◌, len
 ghost use Rattle.kernel.specs.Lists.{Stored};
 ghost use Rattle.capture.specs.Frames.{point_of, Whole};
 ghost use Rattle.summary_blocks.specs.Summary.{first_wanting, refusal_text, head_text, end_text};
-ghost use Rattle.summary_blocks.specs.Laid.{accepted_by, verdict_text, verdict_said, BlockPromise};
+ghost use Rattle.summary_blocks.specs.Laid.{accepted_by, step_text, verdict_said, BlockPromise};
 
-use capture::{Holding, advance, block_room, holding_behind};
+use capture::{Holding, Step, advance, block_room, holding_behind};
 use element::Accepted;
 use kernel::{Refusal, lay};
 use records::Record;
@@ -43,7 +43,6 @@ fn lay_if(out: &mut [u8], at: usize, said: bool, words: &[u8]) -> usize
     if said { lay(out, at, words) } else { at }
 }
 
-#[tactic(auto, using(kernel::proofs::Lists::stored_then))]
 fn lay_refusal(out: &mut [u8], at: usize, element: usize, wanting: bool, x: Refusal) -> usize
     requires { at + 187 ≤ 1000000 }
     ensures { (result ≤ at + 187)
@@ -62,27 +61,6 @@ fn first_wanting(said: bool, x: Refusal) -> bool
     ensures { result ≡ first_wanting said x }
 {
     !said && x.number == 4
-}
-
-// The lines of an element, by its verdict and what a reading left.
-fn lay_verdict(
-    out: &mut [u8],
-    at: usize,
-    element: usize,
-    held: Option<Record>,
-    said: bool,
-    verdict: Result<Accepted, Refusal>,
-    sent: Option<Record>,
-    table: [[u8; 8]; 16],
-) -> usize
-    requires { at + 14336 ≤ 1000000 }
-    ensures { (result ≤ at + 14336)
-        × Stored out.old at (verdict_text element held said verdict sent table) out.new result }
-{
-    match verdict {
-        Ok(_) => lay_accepted(out, at, element, held, sent, table),
-        Err(x) => lay_refusal(out, at, element, first_wanting(said, x), x),
-    }
 }
 
 fn said_after(said: bool, verdict: Result<Accepted, Refusal>) -> bool
@@ -104,6 +82,26 @@ pub struct Block {
     pub ended: bool,
 }
 
+// The lines of an element behind a block's, by its step and the table that its reading left.
+fn lay_verdict(out: &mut [u8], block: Block, step: Step, table: [[u8; 8]; 16]) -> usize
+    requires { block.bytes + 14336 ≤ 1000000 }
+    ensures { (result ≤ block.bytes + 14336)
+        × Stored out.old block.bytes (step_text (point_of block.reached) block.said step table) out.new result }
+{
+    let number = block.reached.mark.number;
+    match step.verdict {
+        Ok(_) => lay_accepted(
+            out,
+            block.bytes,
+            number,
+            block.reached.held,
+            step.sent,
+            table,
+        ),
+        Err(x) => lay_refusal(out, block.bytes, number, first_wanting(block.said, x), x),
+    }
+}
+
 // The lines of one frame after the other, as long as 65,536 bytes of `out` have room for 128 rows. Map and
 // table are scratch.
 fn lay_frames(
@@ -122,32 +120,21 @@ fn lay_frames(
     let room = block_room(out.len());
     let mut block = Block {
         reached: from,
-        said: said,
+        said,
         bytes: 0,
         ended: false,
     };
     while block.bytes + 14336 <= room {
-        let mark = block.reached.mark;
-        let Some(step) = advance(capture, mark, map, table) else {
+        let Some(step) = advance(capture, block.reached.mark, map, table) else {
             return Block {
                 ended: true,
                 ..block
             };
         };
-        let bytes = lay_verdict(
-            out,
-            block.bytes,
-            mark.number,
-            block.reached.held,
-            block.said,
-            step.verdict,
-            step.sent,
-            *table,
-        );
         block = Block {
+            bytes: lay_verdict(out, block, step, *table),
             reached: holding_behind(block.reached, step),
             said: said_after(block.said, step.verdict),
-            bytes: bytes,
             ended: false,
         };
     }

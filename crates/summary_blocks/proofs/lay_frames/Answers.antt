@@ -1,7 +1,7 @@
 -- A step takes a frame, whose lines are laid, or finds none, and then the block is whole.
-use Rattle.std.proofs.Common.{arith, rules, refl, false}
+use Rattle.std.proofs.Common.{arith, rules, refl}
 use Rattle.capture.specs.Frames.{point_of}
-use Rattle.capture.proofs.Steps.{Took, whole_mark, took, took_none, took_further, whole_then, point_then_law}
+use Rattle.capture.proofs.Steps.{whole_mark, took, took_none, took_further, whole_then, point_then_law}
 use Rattle.capture.proofs.Blocks.{left_on, left_none, left_full}
 use Rattle.summary_blocks.specs.Summary.{lines}
 use Rattle.summary_blocks.proofs.Blocks.{laid_frame, said_then, block_laid}
@@ -34,7 +34,7 @@ loop-block-preserved c =
     (rw c.in-Some.is at c.advance.ensures) in
     let h = c.holding_behind.ensures in
     let left = left_on lines _ _ 4368 i.left t.seen t.is (omega (arith, c.block_room-room.ensures, c.loop-block-test.true))
-    (laid_frame t b.said c.lay_verdict-bytes.ensures.1) in
+    (laid_frame t b.said c.lay_verdict.ensures.1) in
     record {
       rooms = record { map_room = search rules; long = search rules; few = omega (arith, c.block_room-room.ensures, c.loop-block-test.true) };
       whole = whole_then t b.reached refl h;

@@ -1,5 +1,5 @@
 -- what is left, laid behind the bytes used, makes the block whole
-use Rattle.std.proofs.Common.{◌≡◌, ◌-◌, length, false}
+use Rattle.std.proofs.Common.{◌-◌, length}
 use Rattle.capture.specs.Frames.{point_of}
 use Rattle.summary_blocks.proofs.Blocks.{Going}
 use Rattle.summary_blocks.proofs.lay_frames.Given as goal
