@@ -1,15 +1,19 @@
 -- Laws of the bits of an element: read as a value, and piece by piece.
-use mathlib.Core.Path.{◌≡◌, refl, ap, ◌∙◌}
-use mathlib.Core.Bool.{Bool, false}
-use mathlib.Core.List.{List, ◌++◌, append_assoc}
+use mathlib.Core.Path.{◌≡◌, refl, sym, ap, ◌∙◌}
+use mathlib.Core.Bool.{Bool, true, false}
+use mathlib.Core.List.{List, ◌++◌, append-nil}
 use Prim.Native.Nat.{ℕ, zero, suc, ◌+◌, ◌-◌, ◌*◌, ◌/◌, ◌≤◌, ◌<◌}
 use native.Mathlib.Omega.{arith}
 use lib.ListN.{length, get_or, take, drop, length-drop}
+use Rattle.std.proofs.Common.{min}
+use lib.Dec.{leb}
+use borrow.Author.Tests.{leb-true, leb-false}
 use lib.Seq.{take-suc, take-add, get_or-drop, drop-drop}
 use Rattle.kernel.specs.Bits.{bit_at, value_at, bit, odd, bits_of, unpack}
 use Rattle.kernel.proofs.Bits.{bit_lt, bit_odd}
 use Rattle.kernel.proofs.Held.{length-unpack, bit_at_law}
 use Rattle.items.specs.Copied.{bits_from}
+use Rattle.kernel.proofs.Puts.{puts}
 
 -- the bits of a value are the bits it was read from
 pub bits_value : (s : List ℕ) (p w : ℕ) → p + w ≤ 8 * length s → bits_of w (value_at s p w) ≡ bits_from s p w
@@ -32,20 +36,29 @@ bits_value s p (suc w) h =
           (unpack s) w false,
     )
 
--- the first n bits, and those behind them
-bits_turn : (s : List ℕ) (p k n : ℕ) → n ≤ k → bits_from s p k ≡ bits_from s p n ++ bits_from s (p + n) (k - n)
-bits_turn s p k n h =
-    let e : k ≡ n + (k - n) = omega arith in
-    ap (λ (m : ℕ). take m (drop p (unpack s))) e ∙ take-add n (k - n) (drop p (unpack s))
-    ∙ ap (λ (l : List Bool). bits_from s p n ++ take (k - n) l) (drop-drop n p (unpack s))
+-- the first k, up to m of them before the rest
+parts : (m k : ℕ) (l : List Bool) → take k l ≡ take (min k m) l ++ take (k - m) (drop m l)
+parts m k l = by_test (leb m k) refl
+  where
+    by_test : (t : Bool) → leb m k ≡ t → take k l ≡ take (min k m) l ++ take (k - m) (drop m l)
+    by_test true e =
+        let h : m ≤ k = leb-true m k e in
+        let f : min k m ≡ m = omega arith in
+        let g : k ≡ m + (k - m) = omega arith in
+        ap (λ (n : ℕ). take n l) g ∙ rw f (take-add m (k - m) l)
+    by_test false e =
+        let h : k < m = leb-false m k e in
+        let f : min k m ≡ k = omega arith in
+        let g : k - m ≡ 0 = omega arith in
+        rw (f, g) (sym (append-nil (take k l)))
 
--- a turn of the copy: n bits more, before what stands behind all bits
-pub copy_turn : (s : List ℕ) (first width i n : ℕ) (z : List Bool) → n ≤ width - i
-    → bits_from s (first + i) (width - i) ++ z
-    ≡ bits_from s (first + i) n ++ (bits_from s (first + (i + n)) (width - (i + n)) ++ z)
-copy_turn s first width i n z h =
-    let e : first + (i + n) ≡ first + i + n = omega arith in
-    let f : width - (i + n) ≡ width - i - n = omega arith in
-    rw (e, f)
-    (ap (λ (b : List Bool). b ++ z) (bits_turn s (first + i) (width - i) n h)
-    ∙ append_assoc (bits_from s (first + i) n) _ z)
+-- a turn of the copy: up to 8 bits, and those behind them
+pub copy_turn : (s : List ℕ) (first width i : ℕ)
+    → bits_from s (first + i) (width - i)
+    ≡ bits_from s (first + i) (min (width - i) 8) ++ bits_from s (first + (i + 8)) (width - (i + 8))
+copy_turn s first width i =
+    let e : width - (i + 8) ≡ width - i - 8 = omega arith in
+    let f : first + (i + 8) ≡ first + i + 8 = omega arith in
+    rw (e, f, ← drop-drop 8 (first + i) (unpack s)) (parts 8 (width - i) (drop (first + i) (unpack s)))
+
+pub ruleset copies = (puts, bits_value, copy_turn)

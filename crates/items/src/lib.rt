@@ -3,10 +3,11 @@
 
 ghost use Rattle.std.specs.Prelude.{◌≡◌, ◌+◌, ◌*◌, ◌%◌, ◌≤◌, length};
 ghost use Rattle.kernel.specs.Bits.{value_at, Put};
+ghost use Rattle.kernel.specs.Puts.{Room, Puts};
 ghost use Rattle.items.specs.Items.{item_at};
 ghost use Rattle.items.specs.Copied.{padded, copied};
 
-use kernel::{Cursor, Fetched, Window, fetch, least, put};
+use kernel::{BitWriter, Cursor, Window, fetch};
 
 // Kind, stream, first bit and width.
 #[derive(Clone, Copy)]
@@ -21,54 +22,51 @@ pub struct Item {
 pub fn item_at(map: &[u32], i: usize) -> Item
     ensures { result ≡ item_at map.now i }
 {
-    if i < map.len() / 4 {
-        let at = 4 * i;
-        return Item {
-            kind: map[at],
-            stream: map[at + 1],
-            first: map[at + 2],
-            width: map[at + 3],
-        };
-    }
-    Item {
-        kind: 0,
-        stream: 0,
-        first: 0,
-        width: 0,
+    match map.chunks_exact(4).nth(i) {
+        Some(&[kind, stream, first, width]) => Item {
+            kind,
+            stream,
+            first,
+            width,
+        },
+        _ => Item {
+            kind: 0,
+            stream: 0,
+            first: 0,
+            width: 0,
+        },
     }
 }
 
 // Up to 8 bits that the element has.
+#[tactic(auto, using(kernel::proofs::Steps::fields))]
 fn bits_at(el: &[u8], at: usize, width: usize) -> u32
     requires { (1 ≤ width) × (width ≤ 8) × (at + width ≤ 8 * length el.now) × (length el.now ≤ 8191) }
     ensures { result ≡ value_at el.now at width }
 {
-    let f = fetch(el, Window::Open, Cursor { at: at, fields: 0 }, width);
-    match f {
-        Fetched::Value(v, _) => v,
-        Fetched::Refused(_) => 0,
+    match fetch(el, Window::Open, Cursor { at: at, fields: 0 }, width) {
+        Ok(read) => read.value,
+        Err(_) => 0,
     }
 }
 
-// Bits that the element has, from byte `at` of out on, with zeros behind them up to a byte; the bit behind.
-fn copy_bits(el: &[u8], first: usize, width: usize, out: &mut [u8], at: usize) -> usize
-    requires { (first + width ≤ 8 * length el.now) × (length el.now ≤ 8191) × (8 * at + 65528 ≤ 1000000) }
-    ensures { (result ≤ 8 * at + 65528) × (result % 8 ≡ 0)
-        × Put out.old (8 * at) (padded el.now first width) out.new result }
+// Bits that the element has, with zeros behind them up to a byte.
+#[tactic(auto, using(crate::proofs::Copies::copies))]
+fn copy_bits(el: &[u8], first: usize, width: usize, w: &mut BitWriter)
+    requires { (first + width ≤ 8 * length el.now) × (length el.now ≤ 8191) × Room 65528 w.old }
+    ensures bits { Puts w.old (padded el.now first width) 65528 w.new }
+    ensures whole { w.new.at % 8 ≡ w.old.at % 8 }
 {
-    let mut i: usize = 0;
-    let mut to = 8 * at;
-    while i < width {
-        let n = least(8, width - i);
-        let v = bits_at(el, first + i, n);
-        to = put(out, to, n, v);
-        i += n;
+    for i in (0..width).step_by(8) {
+        let n = (width - i).min(8);
+        w.put(n, bits_at(el, first + i, n));
     }
-    put(out, to, (8 - width % 8) % 8, 0)
+    w.put((8 - width % 8) % 8, 0);
 }
 
 // The bits of an item, from byte `at` of out on, packed from the top bit, with zeros behind them up to a
 // byte; the byte behind.
+#[tactic(auto, using(crate::proofs::Copies::copies))]
 pub fn copy_item(el: &[u8], it: Item, out: &mut [u8], at: usize) -> usize
     requires { 8 * at + 65528 ≤ 1000000 }
     ensures { (result ≤ at + 8191)
@@ -76,11 +74,10 @@ pub fn copy_item(el: &[u8], it: Item, out: &mut [u8], at: usize) -> usize
 {
     let first = it.first as usize;
     let width = it.width as usize;
-    if el.len() > 8191 {
+    if 8191 < el.len() || 8 * el.len() < first + width {
         return at;
     }
-    if first + width > 8 * el.len() {
-        return at;
-    }
-    copy_bits(el, first, width, out, at) / 8
+    let mut w = BitWriter::new(out, 8 * at);
+    copy_bits(el, first, width, &mut w);
+    w.at / 8
 }
