@@ -2,13 +2,14 @@
 // refused element.
 #![tactic(auto)]
 
-ghost use Rattle.std.specs.Prelude.{◌≡◌, cond, [], ◌+◌, ◌≤◌, length};
+ghost use Rattle.std.specs.Prelude.{◌≡◌, cond, [], ◌+◌, ◌≤◌, length, refl};
+ghost use Rattle.std.proofs.Common.{ap, rules};
 ghost use Rattle.kernel.specs.Lists.{Stored};
-ghost use Rattle.capture.specs.Frames.{point_of, Whole};
-ghost use Rattle.summary_blocks.specs.Summary.{first_wanting, refusal_text, head_text, end_text};
+ghost use Rattle.capture.specs.Frames.{holding_of, point_of, Whole};
+ghost use Rattle.summary_blocks.specs.Summary.{first_wanting, refusal_text, lines, head_text, end_text};
 ghost use Rattle.summary_blocks.specs.Laid.{accepted_by, step_text, verdict_said, BlockPromise};
 
-use capture::{Holding, Step, advance, block_room, holding_behind};
+use capture::{Block, Holding, Mark, Reporter, Step, holding_behind};
 use element::Accepted;
 use kernel::{Refusal, lay};
 use records::Record;
@@ -72,86 +73,76 @@ fn said_after(said: bool, verdict: Result<Accepted, Refusal>) -> bool
     }
 }
 
-// Where the summary is come to, whether the want of a configuration was said, the bytes of text laid, and whether no
-// frame is left.
+// Where the summary is come to, and whether the want of a configuration was said.
 #[derive(Clone, Copy)]
-pub struct Block {
-    pub reached: Holding,
+pub struct Summary {
+    pub holding: Holding,
     pub said: bool,
-    pub bytes: usize,
-    pub ended: bool,
 }
 
-// The lines of an element behind a block's, by its step and the table that its reading left.
-fn lay_verdict(out: &mut [u8], block: Block, step: Step, table: [[u8; 8]; 16]) -> usize
-    requires { block.bytes + 14336 ≤ 1000000 }
-    ensures { (result ≤ block.bytes + 14336)
-        × Stored out.old block.bytes (step_text (point_of block.reached) block.said step table) out.new result }
+// The lines of an element, by its step and the table that its reading left.
+fn lay_verdict(out: &mut [u8], at: usize, from: Summary, step: Step, table: [[u8; 8]; 16]) -> usize
+    requires { at + 14336 ≤ 1000000 }
+    ensures { (result ≤ at + 14336)
+        × Stored out.old at (step_text from step table) out.new result }
 {
-    let number = block.reached.mark.number;
+    let number = from.holding.mark.number;
     match step.verdict {
-        Ok(_) => lay_accepted(
-            out,
-            block.bytes,
-            number,
-            block.reached.held,
-            step.sent,
-            table,
-        ),
-        Err(x) => lay_refusal(out, block.bytes, number, first_wanting(block.said, x), x),
+        Ok(_) => lay_accepted(out, at, number, from.holding.held, step.sent, table),
+        Err(x) => lay_refusal(out, at, number, first_wanting(from.said, x), x),
     }
 }
 
-// The lines of one frame after the other, as long as 65,536 bytes of `out` have room for 128 rows. Map and
-// table are scratch.
-fn lay_frames(
-    capture: &[u8],
-    from: Holding,
-    said: bool,
-    map: &mut [u32],
-    table: &mut [[u8; 8]; 16],
-    out: &mut [u8],
-) -> Block
-    requires { (length map.old ≡ 4368) × Whole from }
-    ensures block { BlockPromise capture.now (point_of from) said
-        out.old result out.new }
-    ensures few { result.bytes ≤ length out.old }
-{
-    let room = block_room(out.len());
-    let mut block = Block {
-        reached: from,
-        said,
-        bytes: 0,
-        ended: false,
-    };
-    while block.bytes + 14336 <= room {
-        let Some(step) = advance(capture, block.reached.mark, map, table) else {
-            return Block {
-                ended: true,
-                ..block
-            };
-        };
-        block = Block {
-            bytes: lay_verdict(out, block, step, *table),
-            reached: holding_behind(block.reached, step),
-            said: said_after(block.said, step.verdict),
-            ended: false,
-        };
+impl Reporter for Summary {
+    type State = bool;
+
+    ghost report = { lines };
+
+    ghost is_of = { λ r c x. (r.holding ≡ holding_of c) × (r.said ≡ x) };
+
+    ghost mark = { λ r. r.holding.mark };
+
+    ghost MOST = { 14336 };
+
+    const MOST: usize = 14336;
+
+    fn mark(&self) -> Mark {
+        self.holding.mark
     }
-    block
+
+    fn lay(
+        &self,
+        out: &mut [u8],
+        at: usize,
+        step: &Step,
+        map: &[u32],
+        table: &[[u8; 8]; 16],
+    ) -> usize {
+        lay_verdict(out, at, *self, *step, *table)
+    }
+
+    fn behind(&self, step: &Step) -> Summary {
+        Summary {
+            holding: holding_behind(self.holding, *step),
+            said: said_after(self.said, step.verdict),
+        }
+    }
+
+    ghost mark_is = { λ r c x h. ap (λ k. k.mark) h.0 };
+
+    ghost most_is = { refl };
+
+    ghost most_few = { Prim.search rules };
 }
 
-// The lines of as many frames as a block is sure to have room for, from a place of a capture on.
-pub fn lay_block(capture: &[u8], from: Holding, said: bool, out: &mut [u8]) -> Block
-    requires { Whole from }
-    ensures block { BlockPromise capture.now (point_of from) said
+// The lines of as many frames as a block is sure to have room for 128 rows of each, from a place of a capture on.
+pub fn lay_block(capture: &[u8], from: Summary, out: &mut [u8]) -> Block<Summary>
+    requires { Whole from.holding }
+    ensures block { BlockPromise capture.now (point_of from.holding) from.said
         out.old result out.new }
     ensures few { result.bytes ≤ length out.old }
 {
-    let mut map = [0; 4368];
-    let none = [255; 8];
-    let mut table = [none; 16];
-    lay_frames(capture, from, said, &mut map, &mut table, out)
+    capture::lay_block(capture, from, out)
 }
 
 // The first line.
