@@ -5,7 +5,6 @@ use mathlib.Core.List.{List}
 use Prim.Native.Nat.{ℕ, ◌<◌, ◌≤◌}
 use lib.ListN.{length}
 use Rattle.kernel.specs.Lists.{Stored}
-use Rattle.element.specs.declared.Verdict.{Verdict}
 use Rattle.capture.specs.declared.Mark.{Mark}
 use Rattle.capture.specs.declared.Step.{Step}
 use Rattle.capture.specs.Frames.{Point, mark_of, OfPoint}
@@ -18,16 +17,16 @@ use Rattle.listing_blocks.specs.Laid.{verdict_lines, Within, block_of, BlockProm
 use Rattle.listing_blocks.proofs.Lines.{listed_is, within_room}
 
 -- the step of a block took a frame: its items have room in the map, and its records are those of its verdict
-module _ {s : List ℕ} {c : Point} {map map' : List ℕ} {table table' : List (List ℕ)} {v : Verdict} {r : Step}
-    (t : Took s 4368 c map map' table table' v r) where
-  pub within : length map ≡ 4368 → length map' ≡ length map → Within v
-  within l k = rw t.verdict (within_room map t.seen.reading l (ap length (sym t.map_after_law) ∙ k))
+module _ {s : List ℕ} {c : Point} {map map' : List ℕ} {table table' : List (List ℕ)} {r : Step}
+    (t : Took s 4368 c map map' table table' r) where
+  pub within : length map ≡ 4368 → length map' ≡ length map → Within r.verdict
+  within l k = rw t.step (within_room map t.seen.reading l (ap length (sym t.map_after_law) ∙ k))
 
   pub laid_frame : {from : Mark} → from ≡ mark_of c → {out out' : List ℕ} {at to : ℕ}
-      → Stored out at (verdict_lines from.number v map') out' to → Stored out at (records.text tt t.seen) out' to
+      → Stored out at (verdict_lines from.number r.verdict map') out' to → Stored out at (records.text tt t.seen) out' to
   laid_frame {from} mark {out} {out'} {at} {to} p =
-      let e : verdict_lines from.number v map' ≡ records.text tt t.seen =
-      rw (mark, t.verdict, t.map_after_law, t.number) (listed_is c.number map t.seen.reading) in
+      let e : verdict_lines from.number r.verdict map' ≡ records.text tt t.seen =
+      rw (mark, t.step, t.map_after_law, t.number) (listed_is c.number map t.seen.reading) in
       subst (λ (b : List ℕ). Stored out at b out' to) e p
 
 -- the loop of a block, begun at a point, has come to another,

@@ -1,8 +1,8 @@
 -- What the functions below the listing promise: the same records, from the numbers of a map, and in blocks.
-use Rattle.std.specs.Prelude.{◌≡◌, List, [], ◌++◌, ℕ, zero, suc, ◌+◌, ◌≤◌, length}
+use Rattle.std.specs.Prelude.{◌≡◌, List, [], ◌++◌, ℕ, zero, suc, ◌+◌, ◌≤◌, length, Result, Ok, Err}
 use Rattle.kernel.specs.Lists.{Stored}
-use Rattle.element.specs.declared.Verdict.{Verdict}
-use Rattle.element.specs.declared.Verdict.TheVariants.{Accepted, Refused}
+use Rattle.kernel.specs.declared.Refusal.{Refusal}
+use Rattle.element.specs.declared.Accepted.{Accepted}
 use Rattle.items.specs.declared.Item.{Item}
 use Rattle.items.specs.Items.{item_at}
 use Rattle.capture.specs.declared.Mark.{Mark}
@@ -21,14 +21,14 @@ map_lines number map i zero = []
 map_lines number map i (suc k) = line_by number (item_at map i) ++ map_lines number map (i + 1) k
 
 -- no more items than a map has room for
-abbrev pub Within : Verdict → Type 0
-Within (Accepted items n sent) = items ≤ 1092
-Within (Refused x) = Unit {0}
+abbrev pub Within : Result Accepted Refusal → Type 0
+Within (Ok a) = a.items ≤ 1092
+Within (Err x) = Unit {0}
 
 -- the records of an element, by its verdict and the map that its reading left
-abbrev pub verdict_lines : ℕ → Verdict → List ℕ → List ℕ
-verdict_lines number (Accepted items n sent) map = map_lines number map 0 items
-verdict_lines number (Refused x) map = refused_line number x.number x.place x.fields
+abbrev pub verdict_lines : ℕ → Result Accepted Refusal → List ℕ → List ℕ
+verdict_lines number (Ok a) map = map_lines number map 0 a.items
+verdict_lines number (Err x) map = refused_line number x.number x.place x.fields
 
 -- the block of a listing from a point on, of so many bytes
 abbrev pub block_of : ℕ → List ℕ → Point → Block
