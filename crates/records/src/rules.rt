@@ -77,7 +77,10 @@ fn stream_ok(version: u32, k: usize, i: usize, s: Stream) -> bool
 fn streams_ok(version: u32, k: usize, streams: [Stream; 16]) -> bool
     ensures { result ≡ list_all (λ x. stream_ok version k x.0 x.1) (enumerate_from 0 streams) }
 {
-    streams.iter().enumerate().all(|(i, s)| stream_ok(version, k, i, *s))
+    streams
+        .iter()
+        .enumerate()
+        .all(|(i, s)| stream_ok(version, k, i, *s))
 }
 
 fn layer_ok(n: usize, p: usize, x: u32) -> bool

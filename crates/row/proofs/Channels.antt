@@ -1,11 +1,9 @@
 -- Laws of a row's channels: the configuration's by ranges, and where the output has two in their place.
-use mathlib.Core.Path.{◌≡◌, refl, sym}
+use mathlib.Core.Path.{◌≡◌, refl}
 use mathlib.Core.Bool.{Bool, true, false, cond, ◌&&◌}
-use mathlib.Core.List.{[], ◌∷◌}
 use mathlib.Core.Logic.{◌⊎◌, inl, inr, ⊎_elim}
 use Prim.Native.Nat.{ℕ, zero, suc, ◌≤◌}
 use native.Mathlib.Omega.{arith}
-use lib.ListN.{get_or-eq_default}
 use lib.IntN.{ℤ, pos, negsuc}
 use lib.Dec.{eqb}
 use borrow.Author.Tests.{eqb-true}
@@ -21,9 +19,6 @@ few_channels (suc (suc (suc (suc zero)))) h = refl
 few_channels (suc (suc (suc (suc (suc zero))))) h = refl
 few_channels (suc (suc (suc (suc (suc (suc zero)))))) h = refl
 few_channels (suc (suc (suc (suc (suc (suc (suc n))))))) h = omega arith
-
-pub past_channels : (c : ℕ) → 8 ≤ c → 0 ≡ channels_at c
-past_channels c h = sym (get_or-eq_default (0 ∷ 1 ∷ 2 ∷ 3 ∷ 4 ∷ 5 ∷ 6 ∷ 8 ∷ []) 0 h)
 
 -- ---- of the output, PS being `ps` over channel configuration c
 
@@ -45,9 +40,6 @@ module _ (ps : ℤ) (c : ℕ) where
       go true true e q = inl (one_is ps e, eqb-true c 1 q)
       go true false e q = inr refl
       go false b e q = inr refl
-
-  pub own_channels : ¬ OverOne → Own
-  own_channels n = ⊎_elim (λ h. absurd (n h)) (λ h. h) one_of_both
 
   not_own : ¬ Own → OverOne
   not_own n = ⊎_elim (λ h. h) (λ h. absurd (n h)) one_of_both

@@ -12,7 +12,7 @@ use Rattle.records.specs.Table.{share_of, streams_in, table_of}
 use Rattle.records.specs.Valid.{valid_of}
 use Rattle.records.proofs.Apart.{record_ok}
 use Rattle.records.proofs.Tables.{cell_at, cell_there, streams_next, streams_upto}
-use Rattle.row.specs.declared.Rowed.TheVariants.{Is, Absent}
+use Rattle.std.specs.Prelude.{Some, None}
 use Rattle.row.specs.Row.{row_of, numbered, row_in}
 use Rattle.row.specs.Claims.{IsThere, cell_in}
 
@@ -37,16 +37,16 @@ module _ (r : Record) (p l : ℕ) where
       ∙ not_both (ltb l share) (ltb (first + l) 16) (λ c d. h (hp, hl, ltb-true l share c, ltb-true (first + l) 16 d))
 
   pub row_there : IsThere r p l
-      → row_in r (table_of r.layers r.programs) p l ≡ Is (row_of p l (get_or r.streams (first + l) no_stream))
+      → row_in r (table_of r.layers r.programs) p l ≡ Some (row_of p l (get_or r.streams (first + l) no_stream))
   row_there h = rw (lt-ltb p 16 h.0, lt-ltb l 8 h.1, cell_of_law h, lt-ltb (first + l) 16 h.3)
 
   absent : ¬ IsThere r p l → (a b : Bool) → ltb p 16 ≡ a → ltb l 8 ≡ b
-      → cond a (cond b (numbered r p l (cell_in r p l)) Absent) Absent ≡ Absent
+      → cond a (cond b (numbered r p l (cell_in r p l)) None) None ≡ None
   absent h false b e q = refl
   absent h true false e q = refl
   absent h true true e q = rw (cell_other (ltb-true p 16 e) (ltb-true l 8 q) h)
 
-  pub row_absent : ¬ IsThere r p l → row_in r (table_of r.layers r.programs) p l ≡ Absent
+  pub row_absent : ¬ IsThere r p l → row_in r (table_of r.layers r.programs) p l ≡ None
   row_absent h = absent h (ltb p 16) (ltb l 8) refl refl
 
 pub layer_there : (r : Record) (p l : ℕ) → valid_of r ≡ true → p ≤ r.programs → l ≤ get_or r.layers p 0 → IsThere r p l

@@ -1,5 +1,5 @@
 -- What is claimed of rows. proofs/Theorems.antt has the theorem of each.
-use Rattle.std.specs.Prelude.{◌≡◌, true, [], ℕ, ◌+◌, ◌<◌, ◌≤◌, get_or, pos}
+use Rattle.std.specs.Prelude.{◌≡◌, true, [], ℕ, ◌+◌, ◌<◌, ◌≤◌, get_or, pos, Some, None}
 use Rattle.kernel.specs.Exactly.{Exactly}
 use Rattle.records.specs.declared.Stream.{Stream}
 use Rattle.records.specs.declared.Record.{Record}
@@ -7,7 +7,6 @@ use Rattle.records.specs.Blank.{no_stream}
 use Rattle.records.specs.Table.{share_of, streams_in, table_of}
 use Rattle.records.specs.Valid.{valid_of}
 use Rattle.row.specs.declared.Row.{Row}
-use Rattle.row.specs.declared.Rowed.TheVariants.{Is, Absent}
 use Rattle.row.specs.Row.{channels_at, row_of, row_in}
 
 -- program p has a layer l, and its stream is one of 16
@@ -31,11 +30,11 @@ CellsOther = (r : Record) (p l : ℕ) → p < 16 → l < 8 → ¬ IsThere r p l 
 abbrev pub RowsFound : Type 0
 RowsFound = (r : Record) (p l : ℕ) → IsThere r p l
     → row_in r (table_of r.layers r.programs) p l
-    ≡ Is (row_of p l (get_or r.streams (streams_in r.layers r.programs p + l) no_stream))
+    ≡ Some (row_of p l (get_or r.streams (streams_in r.layers r.programs p + l) no_stream))
 
 -- and every other pair has none
 abbrev pub RowsAbsent : Type 0
-RowsAbsent = (r : Record) (p l : ℕ) → ¬ IsThere r p l → row_in r (table_of r.layers r.programs) p l ≡ Absent
+RowsAbsent = (r : Record) (p l : ℕ) → ¬ IsThere r p l → row_in r (table_of r.layers r.programs) p l ≡ None
 
 -- in a record that 16 does not refuse each layer of each program has one
 abbrev pub EachLayerIsThere : Type 0

@@ -1,16 +1,15 @@
 -- The row of a stream: what the probe shows of it.
 use Rattle.std.specs.Prelude.{Bool, false, cond, ◌&&◌, List, [], ◌∷◌, ℕ, get_or, ℤ, pos, negsuc, ltb, eqb}
+use Rattle.std.specs.Prelude.{Option, Some, None}
 use Rattle.records.specs.declared.Freq.{Freq}
 use Rattle.records.specs.declared.Freq.TheVariants.{Index, Hz}
 use Rattle.records.specs.declared.Form.{Form}
-use Rattle.records.specs.declared.Form.TheVariants.{None, Type5, Type29, Flag0, Flag1, FlagPs}
+use Rattle.records.specs.declared.Form.TheVariants.{None as Unsignalled, Type5, Type29, Flag0, Flag1, FlagPs}
 use Rattle.records.specs.declared.Stream.{Stream}
 use Rattle.records.specs.declared.Record.{Record}
 use Rattle.records.specs.Blank.{no_stream}
 use Rattle.records.specs.Same.{form_freq}
 use Rattle.row.specs.declared.Row.{Row}
-use Rattle.row.specs.declared.Rowed.{Rowed}
-use Rattle.row.specs.declared.Rowed.TheVariants.{Is, Absent}
 
 -- the frequencies by index
 abbrev pub rates : List ℕ
@@ -31,7 +30,7 @@ no_flag = negsuc 0
 
 -- SBR as a form signals it
 abbrev pub sbr_of : Form → ℤ
-sbr_of None = no_flag
+sbr_of Unsignalled = no_flag
 sbr_of (Type5 x) = pos 1
 sbr_of (Type29 x) = pos 1
 sbr_of Flag0 = pos 0
@@ -40,7 +39,7 @@ sbr_of (FlagPs x b) = pos 1
 
 -- PS as a form signals it: only type 29 and a flag behind 0x548 do
 abbrev pub ps_of : Form → ℤ
-ps_of None = no_flag
+ps_of Unsignalled = no_flag
 ps_of (Type5 x) = no_flag
 ps_of (Type29 x) = pos 1
 ps_of Flag0 = no_flag
@@ -78,9 +77,9 @@ row_of p l s = record {
 }
 
 -- the row of stream number i of a record, where there is one
-abbrev pub numbered : Record → ℕ → ℕ → ℕ → Rowed
-numbered r p l i = cond (ltb i 16) (Is (row_of p l (get_or r.streams i no_stream))) Absent
+abbrev pub numbered : Record → ℕ → ℕ → ℕ → Option Row
+numbered r p l i = cond (ltb i 16) (Some (row_of p l (get_or r.streams i no_stream))) None
 
 -- the row of program p and layer l, whose stream number is looked up in a table of 16 by 8
-abbrev pub row_in : Record → List (List ℕ) → ℕ → ℕ → Rowed
-row_in r table p l = cond (ltb p 16) (cond (ltb l 8) (numbered r p l (get_or (get_or table p []) l 0)) Absent) Absent
+abbrev pub row_in : Record → List (List ℕ) → ℕ → ℕ → Option Row
+row_in r table p l = cond (ltb p 16) (cond (ltb l 8) (numbered r p l (get_or (get_or table p []) l 0)) None) None

@@ -19,13 +19,6 @@ pub struct Row {
     pub channels: u32, // of the output: two where PS is 1 over channel configuration 1
 }
 
-// The row of a program's layer, where there is such a layer.
-#[derive(Clone, Copy)]
-pub enum Rowed {
-    Is(Row),
-    Absent,
-}
-
 const RATES: [u32; 13] = [
     96000, 88200, 64000, 48000, 44100, 32000, 24000, 22050, 16000, 12000, 11025, 8000, 7350,
 ];
@@ -33,11 +26,10 @@ const RATES: [u32; 13] = [
 fn hz_at(i: u32) -> u32
     ensures { result ≡ hz_at i }
 {
-    let at = i as usize;
-    if at < 13 {
-        return RATES[at];
+    match RATES.get(i as usize) {
+        Some(hz) => *hz,
+        None => 0,
     }
-    0
 }
 
 fn hz_of(f: Freq) -> u32
@@ -54,11 +46,8 @@ fn sbr_of(f: Form) -> i32
 {
     match f {
         Form::None => -1,
-        Form::Type5(_) => 1,
-        Form::Type29(_) => 1,
         Form::Flag0 => 0,
-        Form::Flag1(_) => 1,
-        Form::FlagPs(_, _) => 1,
+        Form::Type5(_) | Form::Type29(_) | Form::Flag1(_) | Form::FlagPs(_, _) => 1,
     }
 }
 
@@ -66,12 +55,9 @@ fn ps_of(f: Form) -> i32
     ensures { result ≡ ps_of f }
 {
     match f {
-        Form::None => -1,
-        Form::Type5(_) => -1,
-        Form::Type29(_) => 1,
-        Form::Flag0 => -1,
-        Form::Flag1(_) => -1,
-        Form::FlagPs(_, b) => { if b == 0 { 0 } else { 1 } }
+        Form::None | Form::Type5(_) | Form::Flag0 | Form::Flag1(_) => -1,
+        Form::FlagPs(_, 0) => 0,
+        Form::Type29(_) | Form::FlagPs(_, _) => 1,
     }
 }
 
@@ -79,12 +65,8 @@ fn output_of(f: Form, core: u32) -> u32
     ensures { result ≡ output_of f core }
 {
     match f {
-        Form::None => core,
-        Form::Type5(x) => hz_of(x),
-        Form::Type29(x) => hz_of(x),
-        Form::Flag0 => core,
-        Form::Flag1(x) => hz_of(x),
-        Form::FlagPs(x, _) => hz_of(x),
+        Form::None | Form::Flag0 => core,
+        Form::Type5(x) | Form::Type29(x) | Form::Flag1(x) | Form::FlagPs(x, _) => hz_of(x),
     }
 }
 
@@ -101,36 +83,28 @@ fn channels_at(c: u32) -> u32
 fn output_channels(ps: i32, c: u32) -> u32
     ensures { result ≡ output_channels ps c }
 {
-    let own = channels_at(c);
-    if ps != 1 {
-        return own;
+    if ps == 1 && c == 1 {
+        return 2;
     }
-    if c != 1 {
-        return own;
-    }
-    2
+    channels_at(c)
 }
 
 fn stream_row(program: u32, layer: u32, s: Stream) -> Row
     ensures { result ≡ row_of program layer s }
 {
     let c = s.config;
-    let x = c.freq;
-    let f = c.form;
-    let rate = hz_of(x);
-    let output = output_of(f, rate);
-    let sbr = sbr_of(f);
-    let ps = ps_of(f);
-    let channels = output_channels(ps, c.channels);
+    let rate = hz_of(c.freq);
+    let sbr = sbr_of(c.form);
+    let ps = ps_of(c.form);
     Row {
-        program: program,
-        layer: layer,
+        program,
+        layer,
         core: c.core,
-        rate: rate,
-        output: output,
-        sbr: sbr,
-        ps: ps,
-        channels: channels,
+        rate,
+        output: output_of(c.form, rate),
+        sbr,
+        ps,
+        channels: output_channels(ps, c.channels),
     }
 }
 
@@ -142,23 +116,12 @@ pub fn cell_at(table: [[u8; 8]; 16], p: usize, l: usize) -> u8
     table[p][l]
 }
 
-// The row of a program's layer, by the table of stream numbers.
-pub fn row_of(r: Record, table: [[u8; 8]; 16], program: u32, layer: u32) -> Rowed
+// The row of a program's layer, by the table of stream numbers, where there is such a layer.
+pub fn row_of(r: Record, table: [[u8; 8]; 16], program: u32, layer: u32) -> Option<Row>
     ensures { result ≡ row_in r table program layer }
 {
-    let p = program as usize;
-    let l = layer as usize;
-    if 16 <= p {
-        return Rowed::Absent;
-    }
-    if 8 <= l {
-        return Rowed::Absent;
-    }
-    let i = cell_at(table, p, l) as usize;
-    if 16 <= i {
-        return Rowed::Absent;
-    }
-    let s = r.streams[i];
-    let row = stream_row(program, layer, s);
-    Rowed::Is(row)
+    let cells = table.get(program as usize)?;
+    let cell = cells.get(layer as usize)?;
+    let s = r.streams.get(*cell as usize)?;
+    Some(stream_row(program, layer, *s))
 }
