@@ -8,7 +8,8 @@ use Rattle.kernel.specs.Lists.{Stored}
 use Rattle.capture.specs.declared.Block.{Block}
 use Rattle.capture.specs.declared.Holding.{Holding}
 use Rattle.capture.specs.declared.Step.{Step}
-use Rattle.capture.specs.Frames.{Point, behind, frames_of, behind_all, holding_of, point_of, Whole, holding_behind, Took}
+use Rattle.capture.specs.Frames.{Point, behind, frames_of, behind_all, holding_of, point_of, Whole, holding_behind}
+use Rattle.capture.specs.Frames.{Took}
 use Rattle.capture.specs.Blocks.{block_room}
 use Rattle.capture.specs.Promises.{IsBlock}
 use Rattle.capture.proofs.Steps.{whole_then, point_then_law}

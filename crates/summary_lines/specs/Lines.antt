@@ -49,7 +49,8 @@ module _ (element : ℕ) (r : Record) (table : List (List ℕ)) where
   -- k layers of program p, from layer l on
   unfoldable pub layers_text : ℕ → ℕ → ℕ → List ℕ
   layers_text p l zero = []
-  layers_text p l (suc k) = found_text element (get_or (get_or table p []) l 0) (row_in r table p l) ++ layers_text p (l + 1) k
+  layers_text p l (suc k) =
+      found_text element (get_or (get_or table p []) l 0) (row_in r table p l) ++ layers_text p (l + 1) k
 
   -- k programs, from program p on
   unfoldable pub programs_text : ℕ → ℕ → List ℕ
