@@ -20,7 +20,7 @@ use slots::lengths_of;
 // other data, if there is any.
 #[derive(Clone, Copy)]
 pub struct Plan {
-    pub slots: [Option<u32>; 16],
+    pub slots: [Option<u16>; 16],
     pub streams: usize,
     pub subframes: u32,
     pub other: Option<u32>,
@@ -99,7 +99,7 @@ fn payloads_of(
 #[tactic(auto, using(crate::proofs::Steps::part_steps), unfolding(element::specs::Mux::subframe))]
 fn subframe_of(
     el: &[u8],
-    slots: &[Option<u32>],
+    slots: &[Option<u16>],
     from: Walked,
     map: &mut [u32],
 ) -> Result<Walked, Refusal>
@@ -122,7 +122,7 @@ fn subframe_of(
 #[tactic(auto, using(crate::proofs::Turns::subframe_by_subframe))]
 fn subframes_of(
     el: &[u8],
-    slots: &[Option<u32>],
+    slots: &[Option<u16>],
     count: u32,
     from: Walked,
     map: &mut [u32],
@@ -170,11 +170,11 @@ fn alignment_of(el: &[u8], from: Walked, map: &mut [u32]) -> Result<Walked, Refu
 
 // What follows the configuration.
 #[tactic(auto, using(crate::proofs::Steps::steps), unfolding(element::specs::Mux::rest))]
-fn rest_of(el: &[u8], plan: Plan, from: Walked, map: &mut [u32]) -> Result<Walked, Refusal>
-    requires { Planned plan × Ready el.now from map.old (17 * plan.subframes + 2) }
-    ensures walks { result ≡ walked el.now (planned plan) from }
-    ensures maps { map.new ≡ mapped el.now (planned plan) from map.old }
-    ensures few { IfOk result (λ w. w.items ≤ from.items + (17 * plan.subframes + 2)) }
+fn rest_of(el: &[u8], plan: &Plan, from: Walked, map: &mut [u32]) -> Result<Walked, Refusal>
+    requires { Planned plan.now × Ready el.now from map.old (17 * plan.now.subframes + 2) }
+    ensures walks { result ≡ walked el.now (planned plan.now) from }
+    ensures maps { map.new ≡ mapped el.now (planned plan.now) from map.old }
+    ensures few { IfOk result (λ w. w.items ≤ from.items + (17 * plan.now.subframes + 2)) }
 {
     let slots = &plan.slots[..plan.streams];
     let framed = subframes_of(el, slots, plan.subframes, from, map)?;
@@ -215,12 +215,12 @@ pub fn finish(
         items: front_count(sent),
         cursor: c,
     };
-    let end = rest_of(el, plan, from, &mut [])?.cursor;
+    let end = rest_of(el, &plan, from, &mut [])?.cursor;
     if end.at != 8 * el.len() {
         return Err(refused_at(15, end.at, end));
     }
     push_front(map, sent, c.at as u32);
-    let whole = rest_of(el, plan, from, map)?;
+    let whole = rest_of(el, &plan, from, map)?;
     Ok(Accepted {
         items: whole.items,
         fields: whole.cursor.fields as u32,
