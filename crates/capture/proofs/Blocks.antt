@@ -6,12 +6,18 @@ use Prim.Native.Nat.{ℕ, zero, suc, ◌+◌, ◌≤◌, ◌<◌}
 use native.Mathlib.Nat.{zero-add}
 use native.Mathlib.Omega.{arith}
 use lib.Dec.{leb}
-use lib.ListN.{length, length-append}
+use lib.ListN.{length, length-append, length-drop}
 use borrow.Author.Tests.{le-leb, lt-leb, leb-true, leb-false}
 use Rattle.capture.specs.Frames.{Point, Seen, Next, frame, none, behind, then_frames, next_of, frames_from, frames_of}
-use Rattle.capture.specs.Frames.{behind_all}
+use Rattle.capture.specs.Frames.{behind_all, Took}
+use Rattle.capture.specs.declared.Step.{Step}
+use Rattle.kernel.specs.Element.{Answer, accepted, rejected}
+use Rattle.element.specs.Mux.{Applied}
+use Rattle.element.specs.Reply.{verdict_of, map_after}
+use Rattle.element.proofs.Numbers.{length_numbers}
 use Rattle.capture.specs.Blocks.{Report, text_of, after_all, fitting, block_frames, block_text, block_end, block_state}
-use Rattle.capture.specs.Blocks.{is_last, blocks}
+use Rattle.capture.specs.Blocks.{is_last, blocks, block_room, Within}
+use Rattle.capture.specs.Promises.{IsBlock}
 use Rattle.kernel.specs.Lists.{Stored}
 use Rattle.kernel.proofs.Lists.{ToStore, store_all, store_on, stored_none}
 use Rattle.capture.proofs.Frames.{no_frames, frames_on, sittings, few_frames, frames_by, further}
@@ -227,3 +233,39 @@ pub record Rooms (room size : ℕ) (out₀ map out : List ℕ) (used : ℕ) : Ty
   pub map_room : length map ≡ room
   pub long : length out ≡ length out₀
   pub few : used ≤ size
+
+-- ---- a loop that lays a block
+
+module _ {R S : Type 0} (w : Report S) (IsOf : R → Point → S → Type 0) (s out₀ : List ℕ) where
+  -- begun at a point and a state, it has come to others,
+  pub record Reached (c₀ : Point) (x₀ : S) (out : List ℕ) (used : ℕ) (reached : R) : Type 0 where
+    pub point : Point
+    pub state : S
+    pub is : IsOf reached point state
+    pub left : Left w (block_room (length out₀)) s 4368 out₀ x₀ c₀ out used state point
+
+  -- whatever they were that its value was of
+  pub record Going (from : R) (map out : List ℕ) (used : ℕ) (reached : R) : Type 0 where
+    pub rooms : Rooms 4368 (block_room (length out₀)) out₀ map out used
+    pub begun : (c : Point) (x : S) → IsOf from c x → Reached c x out used reached
+
+  -- what was laid is a block
+  pub block_laid : {out : List ℕ} {used : ℕ} {c₀ c : Point} {x₀ x : S} {reached : R} {t : Bool} → IsOf reached c x
+      → Laid w (block_room (length out₀)) s 4368 out₀ x₀ c₀ out used x c t
+      → IsBlock w IsOf s c₀ x₀ out₀ (record { reached = reached; bytes = used; ended = t }) out
+  block_laid i l = record {
+    reached = rw (← l.reach, ← l.state) i;
+    bytes = l.bytes;
+    ended = l.last;
+    stored = l.stored;
+  }
+
+-- a map that holds the items of an answer has room for them
+within_room : (map : List ℕ) (x : Answer Applied) → length map ≡ 4368 → length (map_after map x) ≡ length map
+    → Within (verdict_of x)
+within_room map (accepted a its n) l e = omega (arith, length_numbers its, simp (length-append, length-drop) at e)
+within_room map (rejected r its) l e = tt
+
+pub within : {s : List ℕ} {c : Point} {map map' : List ℕ} {table table' : List (List ℕ)} {r : Step}
+    → Took s 4368 c map map' table table' r → length map ≡ 4368 → length map' ≡ length map → Within r.verdict
+within {map = map} t l k = rw t.step (within_room map t.seen.reading l (ap length (sym t.map_after_law) ∙ k))

@@ -1,10 +1,9 @@
 -- Laws of the step of a capture, by what the hunt and the reading promise.
-use Rattle.std.proofs.Common.{◌≡◌, refl, ap, sym, ◌∙◌, subst, ℕ, ◌+◌, ◌%◌, ◌≤◌, ◌<◌, List, length, Option, Some, None, Result, Ok, Err, arith}
+use Rattle.std.proofs.Common.{◌≡◌, refl, ap, sym, ◌∙◌, subst, ℕ, ◌+◌, ◌-◌, ◌%◌, ◌≤◌, ◌<◌, List, length, Option, Some, None, Result, Ok, Err, arith}
 use Rattle.kernel.specs.declared.Refusal.{Refusal}
 use Rattle.kernel.specs.Element.{Answer}
 use Rattle.sync.specs.declared.Hunted.{Hunted}
 use Rattle.sync.specs.Sync.{hunt_of, element_at}
-use Rattle.element.specs.declared.Accepted.{Accepted}
 use Rattle.element.specs.Held.{Held}
 use Rattle.element.specs.Mux.{Applied}
 use Rattle.element.specs.Reply.{answer, verdict_of, sent_by, map_after, table_after}
@@ -16,9 +15,9 @@ use Rattle.reader.proofs.Preparing.{then_prepared}
 use Rattle.capture.specs.declared.Mark.{Mark}
 use Rattle.capture.specs.declared.Holding.{Holding}
 use Rattle.capture.specs.declared.Step.{Step}
-use Rattle.capture.specs.Frames.{Point, Seen, Next, frame, none, behind, seen_at, next_by, next_of, mark_of}
+use Rattle.capture.specs.Frames.{Point, Next, frame, none, behind, seen_at, next_by, next_of, mark_of}
 use Rattle.capture.specs.Frames.{holding_of, point_of, Whole, point_then, step_over, step_of, holding_behind, holding_then}
-use Rattle.capture.specs.Frames.{map_by, table_by}
+use Rattle.capture.specs.Frames.{map_by, table_by, Took}
 use Rattle.capture.specs.Promises.{AdvancePromise}
 use Rattle.capture.proofs.Frames.{OfNext, next_inside, From, next_from}
 
@@ -68,24 +67,13 @@ module _ (s : List ℕ) (room : ℕ) (c : Point) {from : Mark} (mark : from ≡ 
 
     pub step_is : (map : List ℕ) (table : List (List ℕ)) {r : PreparedReply} {map' : List ℕ} {table' : List (List ℕ)}
         → let y = answer el c.held room in
-          (r ≡ replied_by from.prepared y) × (map' ≡ map_after map y) × (table' ≡ table_after table y)
+        (r ≡ replied_by from.prepared y) × (map' ≡ map_after map y) × (table' ≡ table_after table y)
         → let x = next_of s room c in
-          (Some (step_with from h.place h.size r) ≡ step_of x) × (map' ≡ map_by map x) × (table' ≡ table_by table x)
+        (Some (step_with from h.place h.size r) ≡ step_of x) × (map' ≡ map_by map x) × (table' ≡ table_by table x)
     unfolding seen
     step_is map table l =
         let k = rw (at, mark) at l in
         rw (next_found, mark) (ap Some (ap (step_with (mark_of c) h.place h.size) k.0 ∙ step_seen), k.1, k.2)
-
--- which frame a step took
-pub record Took (s : List ℕ) (room : ℕ) (c : Point) (map map' : List ℕ) (table table' : List (List ℕ)) (r : Step)
-    : Type 0 where
-  pub seen : Seen
-  pub is : next_of s room c ≡ frame seen
-  pub number : seen.number ≡ c.number
-  pub before : seen.before ≡ c.held
-  pub step : r ≡ step_over seen
-  pub map_after_law : map' ≡ map_after map seen.reading
-  pub table_after_law : table' ≡ table_after table seen.reading
 
 module _ (s : List ℕ) (room : ℕ) (c : Point) (map : List ℕ) (table : List (List ℕ)) where
   took_by : {map' : List ℕ} {table' : List (List ℕ)} {r : Step} (x : Next) → next_of s room c ≡ x
@@ -139,6 +127,14 @@ module _ {s : List ℕ} {room : ℕ} {c : Point} {map map' : List ℕ} {table ta
 
   pub mark_then : r.next ≡ mark_of (behind t.seen)
   mark_then = ap (λ (y : Step). y.next) t.step
+
+  -- so a loop over steps ends,
+  pub nearer : {from to : Mark} → from ≡ mark_of c → to ≡ mark_of (behind t.seen)
+      → length s - to.at < length s - from.at
+  nearer p q =
+      let e = ap (λ (m : Mark). m.at) p in
+      let f = ap (λ (m : Mark). m.at) (q ∙ sym mark_then) in
+      omega (arith, took_further, e, f)
 
   -- and what is kept with what is held leads to the point there
   module _ (from : Holding) (e : from.held ≡ c.held) {h : Holding} (b : h ≡ holding_behind from r) where

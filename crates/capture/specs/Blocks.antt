@@ -1,5 +1,7 @@
 -- The text of frames one after the other, and the frames whose text is laid into a block.
-use Rattle.std.specs.Prelude.{Bool, cond, List, [], ◌∷◌, ◌++◌, ℕ, zero, suc, ◌+◌, min, leb, length}
+use Rattle.std.specs.Prelude.{Bool, cond, List, [], ◌∷◌, ◌++◌, ℕ, zero, suc, ◌+◌, ◌≤◌, min, leb, length, Result, Ok, Err}
+use Rattle.kernel.specs.declared.Refusal.{Refusal}
+use Rattle.element.specs.declared.Accepted.{Accepted}
 use Rattle.capture.specs.Frames.{Point, Seen, frames_of, behind_all}
 
 -- of so many bytes lent for a block no more than 65,536 are used
@@ -11,6 +13,11 @@ pub record Report (S : Type 0) : Type 0 where
   pub text : S → Seen → List ℕ
   pub after : S → Seen → S
   pub most : ℕ
+
+-- no more items than a map has room for
+abbrev pub Within : Result Accepted Refusal → Type 0
+Within (Ok a) = a.items ≤ 1092
+Within (Err x) = Unit {0}
 
 module _ {S : Type 0} (w : Report S) where
   -- the texts of some frames one after the other, from a state on

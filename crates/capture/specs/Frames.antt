@@ -149,3 +149,14 @@ map_by map none = map
 abbrev pub table_by : List (List ℕ) → Next → List (List ℕ)
 table_by table (frame m) = table_after table m.reading
 table_by table none = table
+
+-- which frame a step took
+pub record Took (s : List ℕ) (room : ℕ) (c : Point) (map map' : List ℕ) (table table' : List (List ℕ)) (r : Step)
+    : Type 0 where
+  pub seen : Seen
+  pub is : next_of s room c ≡ frame seen
+  pub number : seen.number ≡ c.number
+  pub before : seen.before ≡ c.held
+  pub step : r ≡ step_over seen
+  pub map_after_law : map' ≡ map_after map seen.reading
+  pub table_after_law : table' ≡ table_after table seen.reading

@@ -1,10 +1,10 @@
 // The frames of a capture one after the other, each read with what was held by then.
 #![tactic(auto)]
 
-ghost use Rattle.std.specs.Prelude.{◌≡◌, None};
-ghost use Rattle.capture.specs.Blocks.{block_room};
-ghost use Rattle.capture.specs.Frames.{start, mark_of, OfPoint, holding_of, holding_behind};
-ghost use Rattle.capture.specs.Promises.{AdvancePromise};
+ghost use Rattle.std.specs.Prelude.{◌≡◌, ℕ, ◌+◌, ◌≤◌, None, length};
+ghost use Rattle.capture.specs.Blocks.{block_room, Report, Within};
+ghost use Rattle.capture.specs.Frames.{Point, start, mark_of, OfPoint, holding_of, holding_behind};
+ghost use Rattle.capture.specs.Promises.{AdvancePromise, MarkPromise, LayPromise, BehindPromise, IsOfSome, BlockPromise};
 
 use element::Accepted;
 use kernel::Refusal;
@@ -105,4 +105,104 @@ pub fn block_room(length: usize) -> usize
     ensures { result ≡ block_room length }
 {
     length.min(65536)
+}
+
+// Who reports the frames of a capture: where it is come to, with the state that frames change, and how the text of a
+// frame is laid.
+pub trait Reporter: Copy {
+    ghost use Rattle.capture.specs.declared.Mark.{Mark};
+
+    type State;
+
+    ghost report: { Report Self.State };
+
+    ghost is_of: { Self → Point → Self.State → Type 0 };
+
+    ghost mark: { Self → Mark };
+
+    ghost MOST: { ℕ };
+
+    // The most bytes that the text of a frame has.
+    const MOST: usize;
+
+    // The mark of where the capture is come to.
+    fn mark(&self) -> Mark
+        ensures { result ≡ mark self.now };
+
+    // The text of the frame that a step is over, by the map and the table that it left; the byte behind it.
+    fn lay(
+        &self,
+        out: &mut [u8],
+        at: usize,
+        step: &Step,
+        map: &[u32],
+        table: &[[u8; 8]; 16],
+    ) -> usize
+        requires { (at + MOST ≤ 1000000) × Within step.now.verdict }
+        ensures { (result ≤ at + MOST)
+            × LayPromise report is_of self.now step.now map.now table.now
+            out.old at out.new result };
+
+    // Behind that frame.
+    fn behind(&self, step: &Step) -> Self
+        ensures { BehindPromise report is_of self.now step.now result };
+
+    ghost mark_is: { MarkPromise is_of mark };
+
+    ghost most_is: { report.most ≡ MOST };
+
+    ghost most_few: { MOST ≤ 65536 };
+}
+
+// Where a report is come to, the bytes of text laid, and whether no frame is left.
+#[derive(Clone, Copy)]
+pub struct Block<R> {
+    pub reached: R,
+    pub bytes: usize,
+    pub ended: bool,
+}
+
+// The texts of one frame after the other, as long as 65,536 bytes of `out` have room for the longest. Map and table are
+// scratch.
+fn lay_frames<R: Reporter>(
+    capture: &[u8],
+    from: R,
+    map: &mut [u32],
+    table: &mut [[u8; 8]; 16],
+    out: &mut [u8],
+) -> Block<R>
+    requires { (length map.old ≡ 4368) × IsOfSome R.is_of from }
+    ensures block { BlockPromise R.report R.is_of capture.now from out.old result out.new }
+    ensures few { result.bytes ≤ length out.old }
+{
+    let room = block_room(out.len());
+    let mut reached = from;
+    let mut used: usize = 0;
+    while used + R::MOST <= room {
+        let Some(step) = advance(capture, reached.mark(), map, table) else {
+            return Block {
+                reached: reached,
+                bytes: used,
+                ended: true,
+            };
+        };
+        used = reached.lay(out, used, &step, map, table);
+        reached = reached.behind(&step);
+    }
+    Block {
+        reached: reached,
+        bytes: used,
+        ended: false,
+    }
+}
+
+// The texts of as many frames as a block is sure to have room for, from a place of a capture on.
+pub fn lay_block<R: Reporter>(capture: &[u8], from: R, out: &mut [u8]) -> Block<R>
+    requires { IsOfSome R.is_of from }
+    ensures block { BlockPromise R.report R.is_of capture.now from out.old result out.new }
+    ensures few { result.bytes ≤ length out.old }
+{
+    let mut map = [0; 4368];
+    let mut table = [[255; 8]; 16];
+    lay_frames(capture, from, &mut map, &mut table, out)
 }

@@ -6,7 +6,7 @@ use native.Mathlib.Omega.{arith}
 use lib.ListN.{length}
 use Rattle.kernel.specs.Element.{Item, Tiles, Answer, accepted, rejected}
 use Rattle.sync.specs.Sync.{element_at}
-use Rattle.element.specs.declared.Held.{Held}
+use Rattle.element.specs.Held.{Held}
 use Rattle.element.specs.Mux.{Applied}
 use Rattle.element.specs.Reply.{answer}
 use Rattle.element.specs.Claims.{EachBelow}
@@ -43,7 +43,7 @@ two n h = omega arith
 
 line_says : (number letter stream first width : ℕ) → number < 1000000 → stream < 100 → first < 100000 → width < 100000
     → all_said (line_of number letter stream first width) ≡ number ∷ letter ∷ stream ∷ first ∷ width ∷ []
-unfolding said
+unfolding said line_of
 line_says number letter stream first width a b c d = rw (six number a, two stream b, five first c, five width d)
 
 -- items that tile up to a bit start by then

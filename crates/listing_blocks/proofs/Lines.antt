@@ -1,22 +1,21 @@
 -- Laws of the records of a map.
 use mathlib.Core.Path.{◌≡◌, refl, ◌∙◌, ap}
-use mathlib.Core.Bool.{Bool}
 use mathlib.Core.List.{List, [], ◌∷◌, ◌++◌}
-use Prim.Native.Nat.{ℕ, zero, suc, ◌+◌, ◌-◌, ◌<◌, ◌≤◌}
+use Prim.Native.Nat.{ℕ, zero, suc, ◌+◌, ◌-◌, ◌*◌, ◌<◌}
 use native.Mathlib.Omega.{arith}
-use lib.ListN.{length, length-append, length-drop}
+use lib.ListN.{length, length-append}
 use Rattle.kernel.specs.Element as kernel
 use Rattle.kernel.specs.Element.{Answer, accepted, rejected}
 use Rattle.element.specs.Mux.{Applied}
 use Rattle.element.specs.Reply.{numbers, verdict_of, map_after}
-use Rattle.element.specs.declared.Verdict.{Verdict}
-use Rattle.element.specs.declared.Verdict.TheVariants.{Accepted}
-use Rattle.element.proofs.Numbers.{length_numbers}
 use Rattle.items.specs.declared.Item.{Item}
 use Rattle.items.specs.Items.{item_at, items_from, items_of}
 use Rattle.items.proofs.Theorems.{stored_comes_back}
-use Rattle.listing_blocks.specs.Listing.{item_lines, listed}
-use Rattle.listing_blocks.specs.Laid.{line_by, map_lines, verdict_lines, Within}
+use Rattle.listing_blocks.specs.Listing.{line_of, item_lines, listed}
+use Rattle.listing_blocks.specs.Laid.{line_by, map_lines, verdict_lines}
+use Rattle.std.proofs.lemmas.List.Edits.{sets}
+use Rattle.kernel.proofs.Lists.{sets-append}
+use Rattle.std.proofs.lemmas.Bool.Decides.{nat_tests}
 
 module _ (number : ℕ) (map : List ℕ) where
   pub lines_turn : (items i : ℕ) → i < items
@@ -51,11 +50,23 @@ pub listed_is : (number : ℕ) (map : List ℕ) (x : Answer Applied)
 listed_is number map (accepted a its n) = lines_are number its _
 listed_is number map (rejected r its) = refl
 
--- a map that holds the items of an answer has room for them
-pub within_room : (map : List ℕ) (x : Answer Applied) → length map ≡ 4368 → length (map_after map x) ≡ length map
-    → Within (verdict_of x)
-within_room map (accepted a its n) l e = omega (arith, length_numbers its, simp (length-append, length-drop) at e)
-within_room map (rejected r its) l e = tt
+-- ---- laid over a list
 
-pub items_within : {v : Verdict} {items n : ℕ} {sent : Bool} → Within v → v ≡ Accepted items n sent → items ≤ 1092
-items_within h e = rw e at h
+pub line_long : (number letter stream first width : ℕ) → length (line_of number letter stream first width) ≡ 24
+unfolding line_of
+line_long number letter stream first width = refl
+
+pub no_lines : (number : ℕ) (map : List ℕ) (i k : ℕ) → k ≡ 0 → map_lines number map i k ≡ []
+unfolding map_lines
+no_lines number map i k e = rw e
+
+pub length_lines : (number : ℕ) (map : List ℕ) (i k : ℕ) → length (map_lines number map i k) ≡ 24 * k
+unfolding map_lines
+length_lines number map i zero = refl
+length_lines number map i (suc k) = simp (length-append, length_lines number map (i + 1) k, line_long) (omega arith)
+
+pub laid_then : (l : List ℕ) (i : ℕ) (a : List ℕ) (j : ℕ) (b : List ℕ) → j ≡ i + length a
+    → sets (sets l i a) j b ≡ sets l i (a ++ b)
+laid_then l i a j b h = sets-append a b l i j h
+
+pub ruleset lines = (laid_then, line_long, length_lines, no_lines, lines_turn, nat_tests)

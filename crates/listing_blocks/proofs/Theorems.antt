@@ -18,13 +18,13 @@ use Rattle.sync.specs.Sync.{first_of}
 use Rattle.capture.specs.Frames.{frames_from, start}
 use Rattle.capture.specs.Blocks.{text_of}
 use Rattle.capture.proofs.Theorems.{blocks_are_whole}
-use Rattle.listing_blocks.specs.Listing.{item_lines, records}
+use Rattle.listing_blocks.specs.Listing.{line_of, item_lines, records}
 use Rattle.listing_blocks.specs.Claims.{WorkedListing, LettersOfKinds, LetterOfRefusal, NothingIsLost}
 use Rattle.listing_blocks.specs.Claims.{ListingIsWhole}
 use Rattle.listing_blocks.proofs.Digits.{all_said_law}
 
 pub worked_listing : WorkedListing
-unfolding text_of frames_from item_lines first_of answer audio_mux_element after_flag use_same_stream_mux applied rest
+unfolding line_of text_of frames_from item_lines first_of answer audio_mux_element after_flag use_same_stream_mux applied rest
     byte_alignment other_data subframes subframe payload_mux
     payload_length_info slot_of mux_slot_length_bytes slot_from stream_mux_config mux_ending mux_head programs num_layer layers
     layer frame_length configuration windowed
@@ -39,6 +39,7 @@ pub letters_of_kinds : LettersOfKinds
 letters_of_kinds = refl
 
 pub letter_of_refusal : LetterOfRefusal
+unfolding line_of
 letter_of_refusal number refusal place count = refl
 
 pub nothing_is_lost : NothingIsLost

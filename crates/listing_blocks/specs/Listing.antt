@@ -11,7 +11,7 @@ abbrev pub digit_at : ℕ → ℕ → ℕ
 digit_at n place = 48 + n / place % 10
 
 -- element number, kind letter, stream, first bit, width, one space between, newline
-abbrev pub line_of : ℕ → ℕ → ℕ → ℕ → ℕ → List ℕ
+unfoldable pub line_of : ℕ → ℕ → ℕ → ℕ → ℕ → List ℕ
 line_of number letter stream first width =
     digit_at number 100000 ∷ digit_at number 10000 ∷ digit_at number 1000 ∷ digit_at number 100 ∷ digit_at number 10 ∷
     digit_at number 1

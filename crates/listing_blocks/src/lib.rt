@@ -2,69 +2,67 @@
 // element.
 #![tactic(auto)]
 
-ghost use Rattle.std.specs.Prelude.{◌≡◌, ◌+◌, ◌*◌, ◌≤◌, length};
+ghost use Rattle.std.specs.Prelude.{◌≡◌, ◌+◌, ◌*◌, ◌≤◌, length, refl};
+ghost use Rattle.std.proofs.Common.{rules};
 ghost use Rattle.kernel.specs.Lists.{Stored};
-ghost use Rattle.capture.specs.Frames.{OfPoint};
-ghost use Rattle.listing_blocks.specs.Listing.{line_of, letter_of, refused_line};
-ghost use Rattle.listing_blocks.specs.Laid.{line_by, map_lines, verdict_lines, Within, BlockPromise};
+ghost use Rattle.capture.specs.Frames.{OfPoint, mark_of};
+ghost use Rattle.capture.specs.Blocks.{Within};
+ghost use Rattle.listing_blocks.specs.Listing.{line_of, letter_of, refused_line, records};
+ghost use Rattle.listing_blocks.specs.Laid.{line_by, map_lines, verdict_lines, BlockPromise};
 
-use capture::{Found, Mark, advance, block_room};
-use element::Verdict;
+use capture::{Block, Mark, Reporter, Step};
+use element::Accepted;
 use items::{Item, item_at};
 use kernel::{Refusal, lay};
 
+#[tactic(auto, unfolding(crate::specs::Listing::line_of))]
 fn line_of(number: usize, letter: u8, stream: usize, first: usize, width: usize) -> [u8; 24]
     ensures { result ≡ line_of number letter stream first width }
 {
     [
-        (48 + number / 100000 % 10) as u8,
-        (48 + number / 10000 % 10) as u8,
-        (48 + number / 1000 % 10) as u8,
-        (48 + number / 100 % 10) as u8,
-        (48 + number / 10 % 10) as u8,
-        (48 + number / 1 % 10) as u8,
-        32,
+        (b'0' as usize + number / 100000 % 10) as u8,
+        (b'0' as usize + number / 10000 % 10) as u8,
+        (b'0' as usize + number / 1000 % 10) as u8,
+        (b'0' as usize + number / 100 % 10) as u8,
+        (b'0' as usize + number / 10 % 10) as u8,
+        (b'0' as usize + number / 1 % 10) as u8,
+        b' ',
         letter,
-        32,
-        (48 + stream / 10 % 10) as u8,
-        (48 + stream / 1 % 10) as u8,
-        32,
-        (48 + first / 10000 % 10) as u8,
-        (48 + first / 1000 % 10) as u8,
-        (48 + first / 100 % 10) as u8,
-        (48 + first / 10 % 10) as u8,
-        (48 + first / 1 % 10) as u8,
-        32,
-        (48 + width / 10000 % 10) as u8,
-        (48 + width / 1000 % 10) as u8,
-        (48 + width / 100 % 10) as u8,
-        (48 + width / 10 % 10) as u8,
-        (48 + width / 1 % 10) as u8,
-        10,
+        b' ',
+        (b'0' as usize + stream / 10 % 10) as u8,
+        (b'0' as usize + stream / 1 % 10) as u8,
+        b' ',
+        (b'0' as usize + first / 10000 % 10) as u8,
+        (b'0' as usize + first / 1000 % 10) as u8,
+        (b'0' as usize + first / 100 % 10) as u8,
+        (b'0' as usize + first / 10 % 10) as u8,
+        (b'0' as usize + first / 1 % 10) as u8,
+        b' ',
+        (b'0' as usize + width / 10000 % 10) as u8,
+        (b'0' as usize + width / 1000 % 10) as u8,
+        (b'0' as usize + width / 100 % 10) as u8,
+        (b'0' as usize + width / 10 % 10) as u8,
+        (b'0' as usize + width / 1 % 10) as u8,
+        b'\n',
     ]
 }
 
 // Of kinds 1 to 6.
-const LETTERS: [u8; 7] = [63, 85, 67, 76, 80, 79, 65];
+const LETTERS: &[u8; 7] = b"?UCLPOA";
 
 fn letter_of(kind: u32) -> u8
     ensures { result ≡ letter_of kind }
 {
-    let at = kind as usize;
-    if at < 7 {
-        return LETTERS[at];
-    }
-    63
+    LETTERS.get(kind as usize).copied().unwrap_or(b'?')
 }
 
 // The record of an item.
 fn item_line(number: usize, it: Item) -> [u8; 24]
     ensures { result ≡ line_by number it }
 {
-    let letter = letter_of(it.kind);
     line_of(
         number,
-        letter,
+        letter_of(it.kind),
         it.stream as usize,
         it.first as usize,
         it.width as usize,
@@ -72,95 +70,96 @@ fn item_line(number: usize, it: Item) -> [u8; 24]
 }
 
 // The records of a map's first items, from byte `at` on; the byte behind them.
+#[tactic(auto, using(crate::proofs::Lines::lines))]
 fn lay_items(out: &mut [u8], at: usize, number: usize, map: &[u32], items: usize) -> usize
     requires { at + 24 * items ≤ 1000000 }
     ensures { (result ≡ at + 24 * items)
         × Stored out.old at (map_lines number map.now 0 items) out.new result }
 {
     let mut to = at;
-    let mut i: usize = 0;
-    while i < items {
-        let it = item_at(map, i);
-        let line = item_line(number, it);
-        to = lay(out, to, &line);
-        i += 1;
+    for i in 0..items {
+        to = lay(out, to, &item_line(number, item_at(map, i)));
     }
     to
 }
 
+#[tactic(auto, using(crate::proofs::Lines::lines))]
 fn lay_refused(out: &mut [u8], at: usize, number: usize, x: Refusal) -> usize
     requires { at + 24 ≤ 1000000 }
     ensures { (result ≡ at + 24)
         × Stored out.old at (refused_line number x.number x.place x.fields) out.new result }
 {
-    let line = line_of(number, 88, x.number, x.place, x.fields);
-    lay(out, at, &line)
+    lay(out, at, &line_of(number, b'X', x.number, x.place, x.fields))
 }
 
 // The records of an element, by its verdict and its map.
-fn lay_verdict(out: &mut [u8], at: usize, number: usize, v: Verdict, map: &[u32]) -> usize
+fn lay_verdict(
+    out: &mut [u8],
+    at: usize,
+    number: usize,
+    v: Result<Accepted, Refusal>,
+    map: &[u32],
+) -> usize
     requires { (at + 26208 ≤ 1000000) × Within v }
     ensures { (result ≤ at + 26208)
         × Stored out.old at (verdict_lines number v map.now) out.new result }
 {
     match v {
-        Verdict::Accepted(items, _, _) => lay_items(out, at, number, map, items as usize),
-        Verdict::Refused(x) => lay_refused(out, at, number, x),
+        Ok(a) => lay_items(out, at, number, map, a.items as usize),
+        Err(x) => lay_refused(out, at, number, x),
     }
 }
 
-// Where the listing is come to, the bytes of records laid, and whether no frame is left.
+// The listing of a capture, come to a mark.
 #[derive(Clone, Copy)]
-pub struct Block {
-    pub reached: Mark,
-    pub bytes: usize,
-    pub ended: bool,
+pub struct Listing {
+    pub mark: Mark,
 }
 
-// The records of one frame after the other, as long as 65,536 bytes of `out` have room for 1,092 of them. Map
-// and table are scratch.
-fn lay_frames(
-    capture: &[u8],
-    from: Mark,
-    map: &mut [u32],
-    table: &mut [[u8; 8]; 16],
-    out: &mut [u8],
-) -> Block
-    requires { (length map.old ≡ 4368) × OfPoint from }
-    ensures block { BlockPromise capture.now from out.old result out.new }
-    ensures few { result.bytes ≤ length out.old }
-{
-    let room = block_room(out.len());
-    let mut reached = from;
-    let mut used: usize = 0;
-    while used + 26208 <= room {
-        let step = advance(capture, reached, map, table);
-        let found = step.found;
-        let Found::Frame(_, _, v) = found else {
-            return Block {
-                reached: reached,
-                bytes: used,
-                ended: true,
-            };
-        };
-        used = lay_verdict(out, used, reached.number, v, map);
-        reached = step.next;
+impl Reporter for Listing {
+    type State = ();
+
+    ghost report = { records };
+
+    ghost is_of = { λ r c x. r.mark ≡ mark_of c };
+
+    ghost mark = { λ r. r.mark };
+
+    ghost MOST = { 26208 };
+
+    const MOST: usize = 26208;
+
+    fn mark(&self) -> Mark {
+        self.mark
     }
-    Block {
-        reached: reached,
-        bytes: used,
-        ended: false,
+
+    fn lay(
+        &self,
+        out: &mut [u8],
+        at: usize,
+        step: &Step,
+        map: &[u32],
+        table: &[[u8; 8]; 16],
+    ) -> usize {
+        lay_verdict(out, at, self.mark.number, step.verdict, map)
     }
+
+    fn behind(&self, step: &Step) -> Listing {
+        Listing { mark: step.next }
+    }
+
+    ghost mark_is = { λ r c x h. h };
+
+    ghost most_is = { refl };
+
+    ghost most_few = { Prim.search rules };
 }
 
 // The records of as many frames as a block is sure to have room for, from a place of a capture on.
-pub fn lay_block(capture: &[u8], from: Mark, out: &mut [u8]) -> Block
+pub fn lay_block(capture: &[u8], from: Mark, out: &mut [u8]) -> Block<Listing>
     requires { OfPoint from }
     ensures block { BlockPromise capture.now from out.old result out.new }
     ensures few { result.bytes ≤ length out.old }
 {
-    let mut map = [0; 4368];
-    let none = [255; 8];
-    let mut table = [none; 16];
-    lay_frames(capture, from, &mut map, &mut table, out)
+    capture::lay_block(capture, Listing { mark: from }, out)
 }

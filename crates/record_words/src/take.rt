@@ -112,7 +112,6 @@ fn layers_from(w: &[u32]) -> [u32; 16]
     layers
 }
 
-#[tactic(auto, using(crate::proofs::Words::stream_from_law))]
 fn streams_from(w: &[u32]) -> [Stream; 16]
     requires { record_size ≤ length w.now }
     ensures { result ≡ streams_from w.now }

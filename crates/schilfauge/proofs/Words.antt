@@ -19,10 +19,6 @@ use Rattle.element.specs.Mux.{Applied}
 use Rattle.element.specs.Reply.{reply_with, reply_of}
 use Rattle.schilfauge.specs.Lent.{held_in, held_words, answer_in, held_after, words_or, kept_after}
 
-pub byte_bit : (b : Bool) → bool_byte b ≡ bit b
-byte_bit true = refl
-byte_bit false = refl
-
 -- a record laid over ones is present
 pub laid_held : (r : Record) → laid_in (replicate (record_size + 1) 1) r ≡ held_words r
 unfolding laid_in
@@ -39,18 +35,3 @@ held_laid r k l =
     let e = word_behind (words_of r) (length_words r k l) in
     let f = laid_is_found r (1 ∷ []) k l in
     rw e (ap Some f)
-
-kept_sent : (t : Bool) (w : List ℕ) (r : Record) (h : Held)
-    → cond t (words_or w (cond t (Some r) h)) w ≡ cond t (held_words r) w
-kept_sent true w r h = refl
-kept_sent false w r h = refl
-
-kept_with : (w : List ℕ) (h : Held) (x : Answer Applied)
-    → kept_after w (reply_with h x).verdict (reply_with h x).held ≡ held_after w x
-kept_with w h (accepted a items n) = kept_sent a.sent w a.config h
-kept_with w h (rejected r items) = refl
-
--- what is kept of a reply
-pub kept_held : (s w : List ℕ) (room : ℕ) (h : Held) (x : Reply) → h ≡ held_in w → x ≡ reply_of s h room
-    → kept_after w x.verdict x.held ≡ held_after w (answer_in s w room)
-kept_held s w room h x held reply = rw (reply, held) (kept_with w (held_in w) (answer_in s w room))

@@ -9,23 +9,23 @@ use capture::start_holding;
 use intake::read_full;
 use std::io;
 use std::io::Write;
-use summary_blocks::{lay_block, lay_end, lay_head};
+use summary_blocks::{Summary, lay_block, lay_end, lay_head};
 
 // Writes the lines of a capture out, block by block; the number of its frames.
 fn show<W: Write>(to: &mut W, capture: &[u8], out: &mut [u8]) -> io::Result<usize>
     requires { length out.old ≡ 65536 }
     ensures { IfOk result (λ n. n ≡ (behind_all start (frames_of capture.now 4368 start)).number) }
 {
-    let mut reached = start_holding();
-    let mut said = false;
+    let mut reached = Summary {
+        holding: start_holding(),
+        said: false,
+    };
     loop {
-        let block = lay_block(capture, reached, said, out);
-        let bytes = block.bytes;
-        to.write_all(&out[..bytes])?;
+        let block = lay_block(capture, reached, out);
+        to.write_all(&out[..block.bytes])?;
         reached = block.reached;
-        said = block.said;
         if block.ended {
-            return Ok(reached.mark.number);
+            return Ok(reached.holding.mark.number);
         }
     }
 }

@@ -6,7 +6,7 @@ use Rattle.summary_blocks.proofs.lay_block.Reads as lay_block
 use Rattle.summary_blocks.proofs.lay_head.Reads as lay_head
 use Rattle.summary_blocks.proofs.lay_end.Reads as lay_end
 
-pub lay_block_allows_one : AllowsOneOutcome lay_block.Learnt (λ k e. e.1.1.1.0.now)
+pub lay_block_allows_one : AllowsOneOutcome lay_block.Learnt (λ k e. e.1.1.0.now)
 lay_block_allows_one k a x y e f p q =
     (p.0.0 ∙ sym q.0.0, (stored_once _ _ _ _ _ _ x.bytes y.bytes p.0.1 q.0.1).1)
 

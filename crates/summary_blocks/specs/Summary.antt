@@ -1,19 +1,24 @@
 -- The summary: a line for each stream of a configuration that becomes held, and one for each refused element.
-use Rattle.std.specs.Prelude.{Bool, false, cond, not, ◌&&◌, ◌||◌, List, [], ◌++◌, ℕ, eqb, length}
+use Rattle.std.specs.Prelude.{Bool, false, cond, not, ◌&&◌, ◌||◌, List, [], ◌++◌, ℕ, eqb, length, Some, None}
 use Rattle.kernel.specs.declared.Refusal.{Refusal}
 use Rattle.kernel.specs.Element.{Answer, accepted, rejected}
 use Rattle.text.specs.Text.{letters}
 use Rattle.records.specs.declared.Record.{Record}
 use Rattle.records.specs.Same.{same_record}
 use Rattle.summary_lines.specs.Lines.{rows_text, refused_text}
-use Rattle.element.specs.declared.Held.{Held}
+use Rattle.element.specs.Held.{Held}
 use Rattle.element.specs.Mux.{Applied}
 use Rattle.capture.specs.Frames.{start, frames_of}
 use Rattle.capture.specs.Blocks.{Report, text_of}
 
+-- a record is held
+abbrev pub is_held : Held → Record → Bool
+is_held (Some c) r = same_record c r
+is_held None r = false
+
 -- an element changes the held configuration where it sends one that was not held
 abbrev pub changes : Held → Bool → Record → Bool
-changes held sent r = sent && not (held.present && same_record held.config r)
+changes held sent r = sent && not (is_held held r)
 
 -- its rows, where it does
 abbrev pub accepted_text : ℕ → Held → Bool → Record → List ℕ

@@ -1,15 +1,13 @@
 -- The columns of a line say its figures: none has more digits than its places.
 use mathlib.Core.Path.{◌≡◌, refl, sym, ap, ◌∙◌}
-use mathlib.Core.Bool.{Bool, true, false, cond}
 use mathlib.Core.List.{List, ◌++◌}
 use Prim.Native.Nat.{ℕ, zero, suc, ◌+◌, ◌≤◌, ◌<◌}
 use native.Mathlib.Omega.{arith}
-use lib.Dec.{eqb}
-use lib.IntN.{ℤ, pos, negsuc}
-use lib.ListN.{length, take, drop}
+use lib.IntN.{ℤ}
+use lib.ListN.{take, drop}
 use lib.Seq.{drop-append-add}
 use Rattle.kernel.specs.declared.Refusal.{Refusal}
-use Rattle.text.specs.Text.{letters, figures, number}
+use Rattle.text.specs.Text.{figures, number}
 use Rattle.text.specs.Claims.{said_after, said_at}
 use Rattle.text.proofs.Theorems.{number_is_said}
 use Rattle.row.specs.declared.Row.{Row}
@@ -17,6 +15,7 @@ use Rattle.row.specs.Claims.{Carried}
 use Rattle.row.proofs.Theorems.{each_layer_is_there, rows_are_carried}
 use Rattle.element.proofs.Theorems.{refusal_is_numbered, figures_are_small}
 use Rattle.summary_lines.specs.Lines.{core_text, flag_text, signal_text, row_text, refused_text}
+use Rattle.summary_lines.proofs.Laid.{length_flag}
 use Rattle.summary_lines.specs.Claims.{RowSaid, RefusalSaid, NothingIsLost, NothingOfRefusalIsLost}
 
 -- ---- a row
@@ -33,15 +32,6 @@ core_says (suc (suc zero)) rate output rest lo hi a b = (number_is_said 1 2 (ome
 core_says (suc (suc (suc zero))) rate output rest lo hi a b = (number_is_said 1 3 (omega arith), a, b, refl)
 core_says (suc (suc (suc (suc zero)))) rate output rest lo hi a b = (number_is_said 1 4 (omega arith), a, b, refl)
 core_says (suc (suc (suc (suc (suc n))))) rate output rest lo hi a b = absurd (omega arith)
-
--- the text of a flag has 15 places
-yes_or_no : (t : Bool) → length (cond t (letters "  no           ") (letters "  yes          ")) ≡ 15
-yes_or_no true = refl
-yes_or_no false = refl
-
-length_flag : (z : ℤ) → length (flag_text z) ≡ 15
-length_flag (pos n) = yes_or_no (eqb n 0)
-length_flag (negsuc n) = refl
 
 past_flag : (z : ℤ) (rest : List ℕ) (n : ℕ) → drop (15 + n) (flag_text z ++ rest) ≡ drop n rest
 past_flag z rest n = ap (λ (k : ℕ). drop (k + n) (flag_text z ++ rest)) (sym (length_flag z))

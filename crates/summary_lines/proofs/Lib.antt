@@ -1,5 +1,5 @@
 -- Laws that the proofs of several functions share, and the theorems.
-pub mod Signs
+pub mod Laid
 pub mod Turns
 pub mod Contracts
 pub mod Streams

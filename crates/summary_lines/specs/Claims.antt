@@ -10,7 +10,7 @@ use Rattle.records.specs.Table.{streams_in}
 use Rattle.records.specs.Valid.{valid_of}
 use Rattle.row.specs.declared.Row.{Row}
 use Rattle.row.specs.Row.{row_of}
-use Rattle.element.specs.declared.Held.{Held}
+use Rattle.element.specs.Held.{Held}
 use Rattle.element.specs.Reply.{answer}
 use Rattle.summary_lines.specs.Lines.{row_text, rows_text, refused_text}
 

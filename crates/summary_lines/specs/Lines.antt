@@ -1,13 +1,12 @@
 -- The lines of the summary: one for each stream of a record, and one for a refused element.
 use Rattle.std.specs.Prelude.{cond, List, [], ◌∷◌, ◌++◌, ℕ, zero, suc, ◌+◌, eqb, ℤ, pos, negsuc, get_or}
+use Rattle.std.specs.Prelude.{Option, Some, None}
 use Rattle.kernel.specs.declared.Refusal.{Refusal}
 use Rattle.text.specs.Text.{letters, number, column}
 use Rattle.text.specs.Words.{words_of}
 use Rattle.records.specs.declared.Record.{Record}
 use Rattle.records.specs.Table.{table_of}
 use Rattle.row.specs.declared.Row.{Row}
-use Rattle.row.specs.declared.Rowed.{Rowed}
-use Rattle.row.specs.declared.Rowed.TheVariants.{Is, Absent}
 use Rattle.row.specs.Row.{row_in}
 
 -- element number, program, layer, stream
@@ -42,9 +41,9 @@ row_text element stream r =
     (core_text r.core r.rate r.output ++ signal_text r.sbr r.ps r.channels)
 
 -- nothing for a layer that is not there
-abbrev pub found_text : ℕ → ℕ → Rowed → List ℕ
-found_text element stream (Is r) = row_text element stream r
-found_text element stream Absent = []
+abbrev pub found_text : ℕ → ℕ → Option Row → List ℕ
+found_text element stream (Some r) = row_text element stream r
+found_text element stream None = []
 
 module _ (element : ℕ) (r : Record) (table : List (List ℕ)) where
   -- k layers of program p, from layer l on

@@ -11,7 +11,7 @@ pub record Going (s out : List ℕ) (reached : Holding) : Type 0 where
       behind_all c (frames_of s 4368 c) ≡ behind_all start (frames_of s 4368 start)
 
 abbrev pub invariant-loop-reached : goal.invariant-loop-reached
-invariant-loop-reached g l = Going l.capture l.out l.reached
+invariant-loop-reached g l = Going l.capture l.out l.reached.holding
 
 abbrev pub decreases-loop-reached : goal.decreases-loop-reached
-decreases-loop-reached g l = length l.capture - l.reached.mark.at
+decreases-loop-reached g l = length l.capture - l.reached.holding.mark.at
