@@ -16,14 +16,20 @@ loop-left-smaller c = touched_less c.loop-left.from c.loop-left.left (omega arit
 pub overflow_mul-value : goal.overflow_mul-value
 overflow_mul-value c =
     let l = c.loop-left in
-    omega (arith, value_room c.args.el.now c.args.at l.from c.min-taken.result (omega arith) l.invariant.value
-    c.power.ensures c.value_within-part.ensures (omega arith))
+    omega (
+      arith,
+      value_room c.args.el.now c.args.at l.from c.min-taken.result (omega arith) l.invariant.value
+          c.power.ensures c.value_within-part.ensures (omega arith),
+    )
 
 pub overflow_add-value : goal.overflow_add-value
 overflow_add-value c =
     let l = c.loop-left in
-    omega (arith, value_room c.args.el.now c.args.at l.from c.min-taken.result (omega arith) l.invariant.value
-    c.power.ensures c.value_within-part.ensures (omega arith))
+    omega (
+      arith,
+      value_room c.args.el.now c.args.at l.from c.min-taken.result (omega arith) l.invariant.value
+          c.power.ensures c.value_within-part.ensures (omega arith),
+    )
 
 pub loop-left-preserved : goal.loop-left-preserved
 loop-left-preserved c =

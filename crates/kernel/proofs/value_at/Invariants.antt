@@ -10,7 +10,7 @@ invariant-loop-left l =
     record {
       few : l.left ≤ l.width;
       ends : l.from + l.left ≡ l.at + l.width;
-      value : l.value ≡ value_at l.el l.at (l.from - l.at)
+      value : l.value ≡ value_at l.el l.at (l.from - l.at);
     }
 
 abbrev pub decreases-loop-left : goal.decreases-loop-left
