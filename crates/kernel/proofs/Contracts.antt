@@ -27,7 +27,10 @@ pub skip_allows_one : AllowsOne skip.Learnt (λ k r e. r)
 skip_allows_one k a x y e f p q = reached_once _ _ _ x y p q
 
 pub new_allows_one : AllowsOne new.Learnt {X = List ℕ × ℕ} (λ k r e. (r.out.now, r.at))
-new_allows_one k a x y e f p q = let s : x.out.now ≡ y.out.now = p.1.0 ∙ sym q.1.0 in let t : x.at ≡ y.at = p.1.1 ∙ sym q.1.1 in λ i. (s i, t i)
+new_allows_one k a x y e f p q =
+    let s : x.out.now ≡ y.out.now = p.1.0 ∙ sym q.1.0 in
+    let t : x.at ≡ y.at = p.1.1 ∙ sym q.1.1 in
+    λ i. (s i, t i)
 
 pub put_allows_one : AllowsOneOfWriter put.Learnt (λ k e. e.0.now)
 put_allows_one k a x y e f g h p q = one_writer g h p q

@@ -20,7 +20,8 @@ measured_fits : (w : Sent) (b : ℕ) → Ok b ≡ measured w
     → (fits w ≡ true) × (b ≡ length_bytes (w.config.subframes + 1) (streams_of w.config) w.lengths)
 measured_fits w b e = go (fits w) refl
   where
-    go : (t : Bool) → fits w ≡ t → (fits w ≡ true) × (b ≡ length_bytes (w.config.subframes + 1) (streams_of w.config) w.lengths)
+    go : (t : Bool) → fits w ≡ t
+        → (fits w ≡ true) × (b ≡ length_bytes (w.config.subframes + 1) (streams_of w.config) w.lengths)
     go true q = (q, let m = rw q at e in cc)
     go false q = absurd (let m = rw q at e in cc)
 

@@ -72,9 +72,11 @@ module _ (ss : List Stream) (ns : List ℕ) where
       rw (stream_is i h, slot_is i h, next_is i h) (go (slot_fits (get_or ss i no_stream) (get_or ns i 0)))
     where
       go : (t : Bool) → cond (t && row_fits (drop (i + 1) ss) (drop (i + 1) ns))
-          (Some (b + (bytes_of_length (get_or ss i no_stream) (get_or ns i 0) + row_bytes (drop (i + 1) ss) (drop (i + 1) ns)))) None
+          (Some (b + (bytes_of_length (get_or ss i no_stream) (get_or ns i 0)
+          + row_bytes (drop (i + 1) ss) (drop (i + 1) ns)))) None
           ≡ cond t (cond (row_fits (drop (i + 1) ss) (drop (i + 1) ns))
-          (Some (b + bytes_of_length (get_or ss i no_stream) (get_or ns i 0) + row_bytes (drop (i + 1) ss) (drop (i + 1) ns))) None) None
+          (Some (b + bytes_of_length (get_or ss i no_stream) (get_or ns i 0)
+          + row_bytes (drop (i + 1) ss) (drop (i + 1) ns))) None) None
       go true = rw add_assoc
       go false = refl
 

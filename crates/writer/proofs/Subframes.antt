@@ -123,5 +123,17 @@ module _ (n : ℕ) (ss : List Stream) where
 
 pub ruleset row_by_row = (rows_start, rows_turn, rows_end, bytes_start, bytes_turn, bytes_end, rest_long, nat_tests)
 
-pub ruleset subframe_by_subframe =
-    (puts, rows_start, rows_turn, rows_end, sum_turn, sum_is, bits_start, bits_turn, bits_end, fewer, rest_long, length-unpack)
+pub ruleset subframe_by_subframe = (
+  puts,
+  rows_start,
+  rows_turn,
+  rows_end,
+  sum_turn,
+  sum_is,
+  bits_start,
+  bits_turn,
+  bits_end,
+  fewer,
+  rest_long,
+  length-unpack,
+)

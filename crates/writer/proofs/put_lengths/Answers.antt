@@ -9,14 +9,18 @@ use Rattle.writer.proofs.put_lengths.Goals as goal
 pub put_length-requires : goal.put_length-requires
 put_length-requires c =
     let a = c.args in
-    let t = zip_turn a.streams.now a.ns.now c.loop-s.yielded c.into_iter-s-iterator.result c.loop-s.s-iterator c.next.new.self _ (search rules) (search rules) c.loop-s.yielded_by (c.in-Some.s, c.in-Some.n) c.in-Some.is c.next.ensures.steps in
+    let t = zip_turn a.streams.now a.ns.now c.loop-s.yielded c.into_iter-s-iterator.result c.loop-s.s-iterator
+    c.next.new.self _ (search rules) (search rules) c.loop-s.yielded_by (c.in-Some.s, c.in-Some.n) c.in-Some.is
+    c.next.ensures.steps in
     let n = t.3 0 in
     grind (arith, length_by_length)
 
 pub loop-s-preserved-then-s-eq0 : goal.loop-s-preserved-then-s-eq0
 loop-s-preserved-then-s-eq0 c =
     let a = c.args in
-    let t = zip_turn a.streams.now a.ns.now c.loop-s.yielded c.into_iter-s-iterator.result c.loop-s.s-iterator c.next.new.self _ (search rules) (search rules) c.loop-s.yielded_by (c.in-Some.s, c.in-Some.n) c.in-Some.is c.next.ensures.steps in
+    let t = zip_turn a.streams.now a.ns.now c.loop-s.yielded c.into_iter-s-iterator.result c.loop-s.s-iterator
+    c.next.new.self _ (search rules) (search rules) c.loop-s.yielded_by (c.in-Some.s, c.in-Some.n) c.in-Some.is
+    c.next.ensures.steps in
     let s = t.2 no_stream in
     let n = t.3 0 in
     grind (arith, length_by_length, length_push c.loop-s.yielded (c.in-Some.s, c.in-Some.n))
@@ -24,7 +28,9 @@ loop-s-preserved-then-s-eq0 c =
 pub loop-s-preserved : goal.loop-s-preserved
 loop-s-preserved c =
     let a = c.args in
-    let t = zip_turn a.streams.now a.ns.now c.loop-s.yielded c.into_iter-s-iterator.result c.loop-s.s-iterator c.next.new.self _ (search rules) (search rules) c.loop-s.yielded_by (c.in-Some.s, c.in-Some.n) c.in-Some.is c.next.ensures.steps in
+    let t = zip_turn a.streams.now a.ns.now c.loop-s.yielded c.into_iter-s-iterator.result c.loop-s.s-iterator
+    c.next.new.self _ (search rules) (search rules) c.loop-s.yielded_by (c.in-Some.s, c.in-Some.n) c.in-Some.is
+    c.next.ensures.steps in
     let s = t.2 no_stream in
     let n = t.3 0 in
     grind (arith, length_by_length, length_push c.loop-s.yielded (c.in-Some.s, c.in-Some.n))

@@ -13,8 +13,11 @@ returns-then-size-gt8191 c =
     let a = c.args in
     let w = to_send a.r a.send a.lengths.now a.payload.now a.other.now in
     let v = sym c.valid.ensures ∙ c.if-not-valid.false in
-    let s = sized w c.in_ok-bytes.bytes v c.in_ok-bytes.ensures.is in
-    (ap Err c.unread-then-size-gt8191.ensures ∙ written_18 w (length a.out.now) v s.0 (omega (arith, s.1, c.size_of-size.ensures)), refl)
+    let s = sized w c.in_ok-bytes.bytes v c.in_ok-bytes.ensures.is in (
+      ap Err c.unread-then-size-gt8191.ensures
+          ∙ written_18 w (length a.out.now) v s.0 (omega (arith, s.1, c.size_of-size.ensures)),
+      refl,
+    )
 
 pub returns-then-out-size : goal.returns-then-out-size
 returns-then-out-size c =
@@ -23,7 +26,8 @@ returns-then-out-size c =
     let v = sym c.valid.ensures ∙ c.if-not-valid.false in
     let s = sized w c.in_ok-bytes.bytes v c.in_ok-bytes.ensures.is in (
       ap Err c.unread-then-out-size.ensures
-          ∙ written_19 w (length a.out.now) v s.0 (omega (arith, s.1, c.size_of-size.ensures)) (omega (arith, s.1, c.size_of-size.ensures)),
+          ∙ written_19 w (length a.out.now) v s.0 (omega (arith, s.1, c.size_of-size.ensures))
+          (omega (arith, s.1, c.size_of-size.ensures)),
       refl,
     )
 
