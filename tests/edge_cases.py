@@ -27,7 +27,7 @@ def data_of(element):
 
 def accepted(e):
     cases.append(data_of(e))
-    cases.append(f"Accepted {len(e.items)} {e.count} true")
+    cases.append(f"accepts {len(e.items)} {e.count} true")
     cases.append(listed(str(number) for item in e.items for number in item))
 
 
@@ -93,7 +93,7 @@ for length, mux, ways in [
     if "asc_len" in ways:
         start = next(first for name, first, _ in e.parts if name == "audioObjectType")
         number, place, count = e.refused_past(10, start + length)
-        cases += [data_of(e), f"Refused (at {number} {place} {count})"]
+        cases += [data_of(e), f"Err (at {number} {place} {count})"]
     else:
         accepted(e)
 

@@ -4,7 +4,8 @@ use native.Mathlib.Omega.{arith}
 use lib.ListN.{length}
 use Rattle.capture.specs.Frames.{start}
 use Rattle.capture.specs.Claims.{FramesAreAll, NextIsInside, SittingsAreOne, NumbersInOrder, BlocksAreWhole}
-use Rattle.capture.specs.Claims.{RoomIsUsed, LastLeavesNone, AdvancedOnce, HoldingFollows}
+use Rattle.kernel.proofs.Theorems.{stored_once}
+use Rattle.capture.specs.Claims.{RoomIsUsed, LastLeavesNone, AdvancedOnce, BlockLaidOnce, HoldingFollows}
 use Rattle.capture.proofs.Frames.{all_frames, next_inside, sittings, numbered}
 use Rattle.capture.proofs.Steps.{held_follows}
 use Rattle.capture.proofs.Blocks.{none_behind_last, whole}
@@ -38,3 +39,12 @@ advanced_once s mark map map₁ map₂ table table₁ table₂ x y o p q =
 
 pub holding_follows : HoldingFollows
 holding_follows = held_follows
+
+pub block_laid_once : BlockLaidOnce
+block_laid_once R S w IsOf s from out out₁ out₂ x y one o p q =
+    let a = p o.point o.state o.is in
+    let b = q o.point o.state o.is in
+    let e = one _ _ x.reached y.reached a.reached b.reached in
+    let f = a.bytes ∙ sym b.bytes in
+    let g = a.ended ∙ sym b.ended in
+    (λ i. record { reached = e i; bytes = f i; ended = g i }, (stored_once _ _ _ _ _ _ x.bytes y.bytes a.stored b.stored).1)

@@ -5,7 +5,8 @@ use Rattle.capture.specs.declared.Step.{Step}
 use Rattle.capture.specs.Frames.{Point, Seen, frame, start, next_of, frames_from, frames_of, behind_all, OfPoint}
 use Rattle.capture.specs.Frames.{holding_of, point_then, step_of, holding_then}
 use Rattle.capture.specs.Blocks.{block_room, Report, text_of, block_end, is_last, blocks}
-use Rattle.capture.specs.Promises.{AdvancePromise}
+use Rattle.capture.specs.declared.Block.{Block}
+use Rattle.capture.specs.Promises.{AdvancePromise, IsOfSome, BlockPromise}
 
 -- no frame is left out: where more are allowed than a capture has bytes, they are the same
 abbrev pub FramesAreAll : Type 0
@@ -55,3 +56,11 @@ AdvancedOnce = (s : List ℕ) (mark : Mark) (map map₁ map₂ : List ℕ) (tabl
 abbrev pub HoldingFollows : Type 0
 HoldingFollows = (s : List ℕ) (room : ℕ) (c : Point) → let x = next_of s room c in
     holding_then (holding_of c) (step_of x) ≡ holding_of (point_then c x)
+
+-- and that of `lay_block` one block, and one content of the bytes lent, of a report whose value is one for each point
+-- and state
+abbrev pub BlockLaidOnce : Type 1
+BlockLaidOnce = (R S : Type 0) (w : Report S) (IsOf : R → Point → S → Type 0) (s : List ℕ) (from : R)
+    (out out₁ out₂ : List ℕ) (x y : Block R)
+    → ((c : Point) (a : S) (p q : R) → IsOf p c a → IsOf q c a → p ≡ q) → IsOfSome IsOf from
+    → BlockPromise w IsOf s from out x out₁ → BlockPromise w IsOf s from out y out₂ → (x ≡ y) × (out₁ ≡ out₂)

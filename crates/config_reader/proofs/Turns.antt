@@ -95,8 +95,10 @@ module _ (ks : List ℕ) (last p : ℕ) where
   unfolding streams_in
   streams_none e = rw e
 
-pub ruleset what_is_left = (programs_start, programs_turn, programs_end, layers_turn, layers_end, before_start, before_turn)
+pub ruleset what_is_left = (programs_start, programs_turn, programs_end, layers_turn, layers_end)
+
+pub ruleset same_config_as = (before_start, before_turn)
 
 pub ruleset the_table = (rows_start, rows_turn, rows_end, streams_none, streams_more, streams_end, length-set)
 
-pub ruleset program_by_program = (steps, what_is_left, the_table)
+pub ruleset program_by_program = (steps, what_is_left, same_config_as, the_table)

@@ -1,116 +1,99 @@
 // AudioSpecificConfig and GASpecificConfig.
-ghost use Rattle.std.specs.Prelude.{◌≡◌, ◌+◌, ◌≤◌, length};
-ghost use Rattle.kernel.specs.Bits.{bits_of, ◌⧺◌, Put};
+ghost use Rattle.std.specs.Prelude.{◌≡◌, ◌≤◌, length};
+ghost use Rattle.kernel.specs.Bits.{bits_of, ◌⧺◌};
+ghost use Rattle.kernel.specs.Puts.{Room, Puts};
 ghost use Rattle.asc.specs.Asc.{freq_bits, front_bits, under_bits, tail_bits, asc_bits};
 
-use kernel::put;
+use kernel::BitWriter;
 use records::{Config, Form, Freq};
 
-fn put_freq(out: &mut [u8], at: usize, f: Freq) -> usize
-    requires { at + 28 ≤ 1000000 }
-    ensures { (result ≤ at + 28) × Put out.old at (freq_bits f) out.new result }
+#[tactic(auto, using(kernel::proofs::Puts::puts), unfolding(asc::specs::Asc::freq_bits))]
+fn put_freq(w: &mut BitWriter, f: Freq)
+    requires { Room 28 w.old }
+    ensures { Puts w.old (freq_bits f) 28 w.new }
 {
     match f {
-        Freq::Index(i) => put(out, at, 4, i),
+        Freq::Index(i) => w.put(4, i),
         Freq::Hz(h) => {
-            let to = put(out, at, 4, 15);
-            put(out, to, 24, h)
+            w.put(4, 15);
+            w.put(24, h);
         }
     }
 }
 
 // The type that stands in front.
+#[tactic(auto, unfolding(asc::specs::Asc::front_bits))]
 fn front_of(core: u32, form: Form) -> u32
     ensures { bits_of 5 result ≡ front_bits core form }
 {
     match form {
-        Form::None => core,
         Form::Type5(_) => 5,
         Form::Type29(_) => 29,
-        Form::Flag0 => core,
-        Form::Flag1(_) => core,
-        Form::FlagPs(_, _) => core,
+        Form::None | Form::Flag0 | Form::Flag1(_) | Form::FlagPs(_, _) => core,
     }
 }
 
 // Behind type 5 or 29: the frequency of SBR, and the core.
-fn put_under(out: &mut [u8], at: usize, core: u32, form: Form) -> usize
-    requires { at + 33 ≤ 1000000 }
-    ensures { (result ≤ at + 33) × Put out.old at (under_bits core form) out.new result }
+#[tactic(auto, using(kernel::proofs::Puts::puts), unfolding(asc::specs::Asc::under_bits))]
+fn put_under(w: &mut BitWriter, core: u32, form: Form)
+    requires { Room 33 w.old }
+    ensures { Puts w.old (under_bits core form) 33 w.new }
 {
     match form {
-        Form::None => at,
-        Form::Type5(x) => {
-            let to = put_freq(out, at, x);
-            put(out, to, 5, core)
+        Form::Type5(x) | Form::Type29(x) => {
+            put_freq(w, x);
+            w.put(5, core);
         }
-        Form::Type29(x) => {
-            let to = put_freq(out, at, x);
-            put(out, to, 5, core)
-        }
-        Form::Flag0 => at,
-        Form::Flag1(_) => at,
-        Form::FlagPs(_, _) => at,
+        Form::None | Form::Flag0 | Form::Flag1(_) | Form::FlagPs(_, _) => {}
     }
 }
 
-fn put_flags(out: &mut [u8], at: usize, c: Config) -> usize
-    requires { at + 3 ≤ 1000000 }
-    ensures { (result ≡ at + 3)
-        × Put out.old at (bits_of 1 c.flag ⧺ bits_of 1 c.depends
-        ⧺ bits_of 1 c.extension) out.new result }
-{
-    let depends = put(out, at, 1, c.flag);
-    let extension = put(out, depends, 1, c.depends);
-    put(out, extension, 1, c.extension)
-}
-
 // 0x2B7, type 5 and sbrPresentFlag.
-fn put_sbr(out: &mut [u8], at: usize, flag: u32) -> usize
-    requires { at + 17 ≤ 1000000 }
-    ensures { (result ≡ at + 17)
-        × Put out.old at (bits_of 11 695 ⧺ bits_of 5 5 ⧺ bits_of 1 flag) out.new result }
+#[tactic(auto, using(kernel::proofs::Puts::puts))]
+fn put_sbr(w: &mut BitWriter, flag: u32)
+    requires { Room 17 w.old }
+    ensures { Puts w.old (bits_of 11 695 ⧺ bits_of 5 5 ⧺ bits_of 1 flag) 17 w.new }
 {
-    let kind = put(out, at, 11, 695);
-    let present = put(out, kind, 5, 5);
-    put(out, present, 1, flag)
+    w.put(11, 695);
+    w.put(5, 5);
+    w.put(1, flag);
 }
 
-fn put_tail(out: &mut [u8], at: usize, form: Form) -> usize
-    requires { at + 57 ≤ 1000000 }
-    ensures { (result ≤ at + 57) × Put out.old at (tail_bits form) out.new result }
+#[tactic(auto, using(kernel::proofs::Puts::puts), unfolding(asc::specs::Asc::tail_bits))]
+fn put_tail(w: &mut BitWriter, form: Form)
+    requires { Room 57 w.old }
+    ensures { Puts w.old (tail_bits form) 57 w.new }
 {
     match form {
-        Form::None => at,
-        Form::Type5(_) => at,
-        Form::Type29(_) => at,
-        Form::Flag0 => put_sbr(out, at, 0),
+        Form::None | Form::Type5(_) | Form::Type29(_) => {}
+        Form::Flag0 => put_sbr(w, 0),
         Form::Flag1(x) => {
-            let to = put_sbr(out, at, 1);
-            put_freq(out, to, x)
+            put_sbr(w, 1);
+            put_freq(w, x);
         }
         Form::FlagPs(x, f) => {
-            let to = put_sbr(out, at, 1);
-            let sync = put_freq(out, to, x);
-            let present = put(out, sync, 11, 1352);
-            put(out, present, 1, f)
+            put_sbr(w, 1);
+            put_freq(w, x);
+            w.put(11, 1352);
+            w.put(1, f);
         }
     }
 }
 
 // AudioSpecificConfig with its GASpecificConfig.
-pub fn put_asc(out: &mut [u8], at: usize, c: Config) -> usize
-    requires { at + 130 ≤ 1000000 }
-    ensures { (result ≤ at + 130) × Put out.old at (asc_bits c) out.new result }
+#[tactic(auto, using(kernel::proofs::Puts::puts), unfolding(asc::specs::Asc::asc_bits))]
+pub fn put_asc(w: &mut BitWriter, c: Config)
+    requires { Room 130 w.old }
+    ensures { Puts w.old (asc_bits c) 130 w.new }
 {
-    let x = c.freq;
-    let form = c.form;
-    let freq = put(out, at, 5, front_of(c.core, form));
-    let channels = put_freq(out, freq, x);
-    let under = put(out, channels, 4, c.channels);
-    let flags = put_under(out, under, c.core, form);
-    let tail = put_flags(out, flags, c);
-    put_tail(out, tail, form)
+    w.put(5, front_of(c.core, c.form));
+    put_freq(w, c.freq);
+    w.put(4, c.channels);
+    put_under(w, c.core, c.form);
+    w.put(1, c.flag);
+    w.put(1, c.depends);
+    w.put(1, c.extension);
+    put_tail(w, c.form);
 }
 
 // How many bits a configuration has: where the same function comes to. What does not fit the scratch byte is not
@@ -119,5 +102,7 @@ pub fn asc_length(c: Config) -> usize
     ensures { (result ≡ length (asc_bits c)) × (result ≤ 130) }
 {
     let mut scratch = [0u8; 1];
-    put_asc(&mut scratch, 0, c)
+    let mut w = BitWriter::new(&mut scratch, 0);
+    put_asc(&mut w, c);
+    w.at
 }

@@ -1,34 +1,33 @@
 // Takes a script of cases and prints every answer in full, as docs/SCRIPT.md says.
 #![tactic(auto)]
 
-use element::{Held, nothing_held};
+use records::no_record;
 use script::number;
-use script_reading::{Next, after};
+use script_reading::Lent;
 use std::io;
 use std::io::{Read, Write};
 
-// One case, by the letter of its kind.
+// One case, by the letter of its kind; what is then held, or None where the script ends.
 fn one<R: Read, W: Write>(
     input: &mut R,
     to: &mut W,
-    held: Held,
+    lent: Lent,
     numbers: &mut [u32],
     bytes: &mut [u8],
     more: &mut [u8],
     out: &mut [u8],
-) -> io::Result<Next> {
-    let kind = number(input, 1)?;
-    let r = held.config;
-    let goes_on = match kind {
-        0x48 => return script_reading::hold(input, held, numbers),
-        0x52 => return script_reading::read(input, to, held, bytes, numbers),
-        0x57 => script_reading::rows(to, r)?,
-        0x53 => script_reading::hunt(input, to, bytes)?,
-        0x50 => script_writing::write(input, to, r, numbers, bytes, more, out)?,
-        0x46 => script_writing::frame(input, to, bytes, out)?,
+) -> io::Result<Option<Lent>> {
+    let r = lent.record;
+    let goes_on = match number(input, 1)? {
+        Some(0x48) => return script_reading::hold(input, numbers),
+        Some(0x52) => return script_reading::read(input, to, lent, bytes, numbers),
+        Some(0x57) => script_reading::rows(to, r)?,
+        Some(0x53) => script_reading::hunt(input, to, bytes)?,
+        Some(0x50) => script_writing::write(input, to, r, numbers, bytes, more, out)?,
+        Some(0x46) => script_writing::frame(input, to, bytes, out)?,
         _ => false,
     };
-    Ok(after(held, goes_on))
+    Ok(goes_on.then_some(lent))
 }
 
 // As many cases as a script may have.
@@ -40,15 +39,15 @@ fn all<R: Read, W: Write>(
     more: &mut [u8],
     out: &mut [u8],
 ) -> io::Result<()> {
-    let mut held = nothing_held();
-    let mut left: usize = 1000000;
-    while 0 < left {
-        let next = one(input, to, held, numbers, bytes, more, out)?;
-        if !next.more {
+    let mut lent = Lent {
+        present: false,
+        record: no_record(),
+    };
+    for _ in 0..1000000 {
+        let Some(next) = one(input, to, lent, numbers, bytes, more, out)? else {
             return Ok(());
-        }
-        held = next.held;
-        left -= 1;
+        };
+        lent = next;
     }
     Ok(())
 }

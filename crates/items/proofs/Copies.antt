@@ -5,7 +5,7 @@ use mathlib.Core.List.{List, ◌++◌, append-nil}
 use Prim.Native.Nat.{ℕ, zero, suc, ◌+◌, ◌-◌, ◌*◌, ◌/◌, ◌≤◌, ◌<◌}
 use native.Mathlib.Omega.{arith}
 use lib.ListN.{length, get_or, take, drop, length-drop}
-use Rattle.std.proofs.Common.{min}
+use Rattle.std.proofs.Common.{min, append_assoc}
 use lib.Dec.{leb}
 use borrow.Author.Tests.{leb-true, leb-false}
 use lib.Seq.{take-suc, take-add, get_or-drop, drop-drop}
@@ -13,7 +13,7 @@ use Rattle.kernel.specs.Bits.{bit_at, value_at, bit, odd, bits_of, unpack}
 use Rattle.kernel.proofs.Bits.{bit_lt, bit_odd}
 use Rattle.kernel.proofs.Held.{length-unpack, bit_at_law}
 use Rattle.items.specs.Copied.{bits_from}
-use Rattle.kernel.proofs.Puts.{puts}
+use Rattle.kernel.proofs.Puts.{bit_by_bit}
 
 -- the bits of a value are the bits it was read from
 pub bits_value : (s : List ℕ) (p w : ℕ) → p + w ≤ 8 * length s → bits_of w (value_at s p w) ≡ bits_from s p w
@@ -61,4 +61,7 @@ copy_turn s first width i =
     let f : first + (i + 8) ≡ first + i + 8 = omega arith in
     rw (e, f, ← drop-drop 8 (first + i) (unpack s)) (parts 8 (width - i) (drop (first + i) (unpack s)))
 
-pub ruleset copies = (puts, bits_value, copy_turn)
+pub regrouped : (a b c : List Bool) → (a ++ b) ++ c ≡ a ++ (b ++ c)
+regrouped a b c = append_assoc a b c
+
+pub ruleset copies = (bit_by_bit, regrouped, bits_value, copy_turn)

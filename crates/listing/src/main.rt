@@ -15,12 +15,11 @@ fn list<W: Write>(to: &mut W, capture: &[u8], out: &mut [u8]) -> io::Result<()>
     let mut reached = capture::start();
     loop {
         let block = lay_block(capture, reached, out);
-        let bytes = block.bytes;
-        to.write_all(&out[..bytes])?;
+        to.write_all(&out[..block.bytes])?;
         if block.ended {
             return Ok(());
         }
-        reached = block.reached;
+        reached = block.reached.mark;
     }
 }
 

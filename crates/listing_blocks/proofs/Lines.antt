@@ -3,17 +3,16 @@ use mathlib.Core.Path.{◌≡◌, refl, ◌∙◌, ap}
 use mathlib.Core.List.{List, [], ◌∷◌, ◌++◌}
 use Prim.Native.Nat.{ℕ, zero, suc, ◌+◌, ◌-◌, ◌*◌, ◌<◌}
 use native.Mathlib.Omega.{arith}
-use lib.ListN.{length, length-append, length-drop}
+use lib.ListN.{length, length-append}
 use Rattle.kernel.specs.Element as kernel
 use Rattle.kernel.specs.Element.{Answer, accepted, rejected}
 use Rattle.element.specs.Mux.{Applied}
 use Rattle.element.specs.Reply.{numbers, verdict_of, map_after}
-use Rattle.element.proofs.Numbers.{length_numbers}
 use Rattle.items.specs.declared.Item.{Item}
 use Rattle.items.specs.Items.{item_at, items_from, items_of}
 use Rattle.items.proofs.Theorems.{stored_comes_back}
 use Rattle.listing_blocks.specs.Listing.{line_of, item_lines, listed}
-use Rattle.listing_blocks.specs.Laid.{line_by, map_lines, verdict_lines, Within}
+use Rattle.listing_blocks.specs.Laid.{line_by, map_lines, verdict_lines}
 use Rattle.std.proofs.lemmas.List.Edits.{sets}
 use Rattle.kernel.proofs.Lists.{sets-append}
 use Rattle.std.proofs.lemmas.Bool.Decides.{nat_tests}
@@ -50,12 +49,6 @@ pub listed_is : (number : ℕ) (map : List ℕ) (x : Answer Applied)
     → verdict_lines number (verdict_of x) (map_after map x) ≡ listed number x
 listed_is number map (accepted a its n) = lines_are number its _
 listed_is number map (rejected r its) = refl
-
--- a map that holds the items of an answer has room for them
-pub within_room : (map : List ℕ) (x : Answer Applied) → length map ≡ 4368 → length (map_after map x) ≡ length map
-    → Within (verdict_of x)
-within_room map (accepted a its n) l e = omega (arith, length_numbers its, simp (length-append, length-drop) at e)
-within_room map (rejected r its) l e = tt
 
 -- ---- laid over a list
 

@@ -2,13 +2,15 @@
 // element.
 #![tactic(auto)]
 
-ghost use Rattle.std.specs.Prelude.{◌≡◌, ◌+◌, ◌*◌, ◌≤◌, length};
+ghost use Rattle.std.specs.Prelude.{◌≡◌, ◌+◌, ◌*◌, ◌≤◌, length, refl};
+ghost use Rattle.std.proofs.Common.{rules};
 ghost use Rattle.kernel.specs.Lists.{Stored};
-ghost use Rattle.capture.specs.Frames.{OfPoint};
-ghost use Rattle.listing_blocks.specs.Listing.{line_of, letter_of, refused_line};
-ghost use Rattle.listing_blocks.specs.Laid.{line_by, map_lines, verdict_lines, Within, BlockPromise};
+ghost use Rattle.capture.specs.Frames.{OfPoint, mark_of};
+ghost use Rattle.capture.specs.Blocks.{Within};
+ghost use Rattle.listing_blocks.specs.Listing.{line_of, letter_of, refused_line, records};
+ghost use Rattle.listing_blocks.specs.Laid.{line_by, map_lines, verdict_lines, BlockPromise};
 
-use capture::{Mark, advance, block_room};
+use capture::{Block, Mark, Reporter, Step};
 use element::Accepted;
 use items::{Item, item_at};
 use kernel::{Refusal, lay};
@@ -108,55 +110,56 @@ fn lay_verdict(
     }
 }
 
-// Where the listing is come to, the bytes of records laid, and whether no frame is left.
+// The listing of a capture, come to a mark.
 #[derive(Clone, Copy)]
-pub struct Block {
-    pub reached: Mark,
-    pub bytes: usize,
-    pub ended: bool,
+pub struct Listing {
+    pub mark: Mark,
 }
 
-// The records of one frame after the other, as long as 65,536 bytes of `out` have room for 1,092 of them. Map
-// and table are scratch.
-fn lay_frames(
-    capture: &[u8],
-    from: Mark,
-    map: &mut [u32],
-    table: &mut [[u8; 8]; 16],
-    out: &mut [u8],
-) -> Block
-    requires { (length map.old ≡ 4368) × OfPoint from }
-    ensures block { BlockPromise capture.now from out.old result out.new }
-    ensures few { result.bytes ≤ length out.old }
-{
-    let room = block_room(out.len());
-    let mut reached = from;
-    let mut used: usize = 0;
-    while used + 26208 <= room {
-        let Some(step) = advance(capture, reached, map, table) else {
-            return Block {
-                reached: reached,
-                bytes: used,
-                ended: true,
-            };
-        };
-        used = lay_verdict(out, used, reached.number, step.verdict, map);
-        reached = step.next;
+impl Reporter for Listing {
+    type State = ();
+
+    ghost report = { records };
+
+    ghost is_of = { λ r c x. r.mark ≡ mark_of c };
+
+    ghost mark = { λ r. r.mark };
+
+    ghost MOST = { 26208 };
+
+    const MOST: usize = 26208;
+
+    fn mark(&self) -> Mark {
+        self.mark
     }
-    Block {
-        reached: reached,
-        bytes: used,
-        ended: false,
+
+    fn lay(
+        &self,
+        out: &mut [u8],
+        at: usize,
+        step: &Step,
+        map: &[u32],
+        table: &[[u8; 8]; 16],
+    ) -> usize {
+        lay_verdict(out, at, self.mark.number, step.verdict, map)
     }
+
+    fn behind(&self, step: &Step) -> Listing {
+        Listing { mark: step.next }
+    }
+
+    ghost mark_is = { λ r c x h. h };
+
+    ghost most_is = { refl };
+
+    ghost most_few = { Prim.search rules };
 }
 
 // The records of as many frames as a block is sure to have room for, from a place of a capture on.
-pub fn lay_block(capture: &[u8], from: Mark, out: &mut [u8]) -> Block
+pub fn lay_block(capture: &[u8], from: Mark, out: &mut [u8]) -> Block<Listing>
     requires { OfPoint from }
     ensures block { BlockPromise capture.now from out.old result out.new }
     ensures few { result.bytes ≤ length out.old }
 {
-    let mut map = [0; 4368];
-    let mut table = [[255; 8]; 16];
-    lay_frames(capture, from, &mut map, &mut table, out)
+    capture::lay_block(capture, Listing { mark: from }, out)
 }

@@ -1,14 +1,19 @@
 -- Laws of a record's words.
 use mathlib.Core.Path.{◌≡◌, refl, sym, ◌∙◌, ap}
-use mathlib.Core.Bool.{true, false}
+use mathlib.Core.Bool.{true}
 use mathlib.Core.List.{List, [], ◌∷◌, ◌++◌, append_assoc, append-nil}
 use Prim.Native.Nat.{ℕ, zero, suc, ◌+◌, ◌-◌, ◌*◌, ◌≤◌, ◌<◌}
 use native.Mathlib.Numerals.{add-one}
 use native.Mathlib.Omega.{arith}
 use lib.ListN.{length, get_or, take, drop, replicate, length-append, length-drop, drop_of_length-le, get_or-append}
-use lib.Seq.{drop-cons, drop_at, drop-drop, drop-append-add, get_or-drop, get_or-take, ext_get_or, take-length}
+use lib.Seq.{sets-eq, drop-cons, drop_at, drop-drop, drop-append-add, get_or-drop, get_or-take, ext_get_or, take-length}
 use lib.Seq.{length-take-le}
-use borrow.Author.Tests.{eqb-true, eq-eqb, le-leb, lt-leb}
+use lib.Dec.{eqb}
+use borrow.Author.Tests.{eqb-true, eq-eqb, le-leb}
+use borrow.Rule.Slice.PartMut.{put_mid}
+use Rattle.std.specs.Cmp.Lexicographic.{pointwise}
+use Rattle.std.proofs.lemmas.Bool.Decides.{same_from_decides, Decides-eqb}
+use Rattle.std.proofs.lemmas.Slice.Eq.{slice_eq-Decides}
 use Rattle.kernel.specs.Lists.{Stored}
 use Rattle.kernel.proofs.Lists.{length-tab, get_or-tab, stored_front}
 use Rattle.kernel.proofs.Tests.{all_of_law, all_yes}
@@ -18,8 +23,9 @@ use Rattle.records.specs.declared.Form.{Form}
 use Rattle.records.specs.declared.Form.TheVariants.{None, Type5, Type29, Flag0, Flag1, FlagPs}
 use Rattle.records.specs.declared.Stream.{Stream}
 use Rattle.records.specs.declared.Record.{Record}
-use Rattle.records.specs.Blank.{no_stream, no_record}
+use Rattle.records.specs.Blank.{no_stream}
 use Rattle.records.specs.Same.{form_tag, form_freq, form_ps}
+use Rattle.records.proofs.Tables.{filled}
 use Rattle.record_words.specs.Words.{layers_at, streams_at, stream_size, record_size, freq_choice, freq_number}
 use Rattle.record_words.specs.Words.{stream_words, streams_words, words_of, freq_from, form_from, stream_from}
 use Rattle.record_words.specs.Words.{layers_from, streams_from, record_from, same_words, record_in, laid_in}
@@ -47,10 +53,6 @@ length_words r k l = simp length-append (omega (arith, length_streams r.streams)
 
 -- ---- words lent
 
-pub laid_none : (w : List ℕ) (r : Record) → length w < record_size → w ≡ laid_in w r
-unfolding laid_in
-laid_none w r h = rw (lt-leb record_size (length w) h)
-
 laid_front : (w w' b : List ℕ) (to : ℕ) → Stored w 0 b w' to → to ≡ record_size → record_size ≤ length w
     → w' ≡ b ++ drop record_size w
 laid_front w w' b to p e h =
@@ -68,6 +70,21 @@ laid_new r = append-nil (words_of r)
 -- the stream read from words that go on to the end
 pub stream_from_law : (w : List ℕ) (n : ℕ) → stream_from (take (length w - n) (drop n w)) ≡ stream_from (drop n w)
 stream_from_law w n = let e : length w - n ≡ length (drop n w) = sym (length-drop n w) in rw (e, take-length)
+
+-- words copied over those that stand from place `at` on
+pub copied : (out src : List ℕ) (at : ℕ) → at + length src ≤ length out
+    → Stored out at src (put_mid at (at + length src - at) out src) (at + length src)
+copied out src at h =
+    let n : at + length src - at ≡ length src = omega arith in
+    record { next = refl; cells = rw (n, sets-eq src out at h, drop-drop, append_assoc) }
+
+-- the layers stand in one part of the words
+pub layers_part : (w : List ℕ) → record_size ≤ length w
+    → take (streams_at - layers_at) (drop layers_at w) ≡ layers_from w
+layers_part w h =
+    let l : length (drop layers_at w) ≡ length w - layers_at = length-drop layers_at w in
+    filled 0 (λ p. get_or w (layers_at + p) 0) 16 _ (length-take-le 16 (drop layers_at w) (omega (arith, l))) λ p b.
+    get_or-take 16 (drop layers_at w) p 0 b ∙ get_or-drop layers_at w p 0
 
 -- ---- what is laid is found
 
@@ -173,6 +190,15 @@ same_are a w l k h =
     let c : i < record_size = omega arith in
     eqb-true (get_or a i 0) (get_or w i 0) (all_of_law record_size _ h i c) ∙ sym (get_or-take record_size w i 0 c)
 
+pub told_same : (a w : List ℕ) → length a ≡ record_size → record_size ≤ length w
+    → pointwise eqb a (take record_size w) ≡ same_words a w
+unfolding same_words
+told_same a w l h =
+    same_from_decides _ _ (slice_eq-Decides Decides-eqb a (take record_size w) _ refl) (
+      same_are a w l h,
+      λ e. all_yes record_size _ λ i b. eq-eqb _ _ (rw e (get_or-take record_size w i 0 b)),
+    )
+
 -- ---- the record of words
 
 module _ (w : List ℕ) (r : Record) (e : record_from w ≡ r) (b : record_size ≤ length w) where
@@ -182,11 +208,3 @@ module _ (w : List ℕ) (r : Record) (e : record_from w ≡ r) (b : record_size 
   pub is_record : same_words (words_of r) w ≡ true → record_in w ≡ r
   unfolding record_in
   is_record h = rw (le-leb record_size (length w) b, same_as, h) e
-
-  pub is_none : same_words (words_of r) w ≡ false → record_in w ≡ no_record
-  unfolding record_in
-  is_none h = rw (le-leb record_size (length w) b, same_as, h)
-
-pub too_few : (w : List ℕ) → length w < record_size → record_in w ≡ no_record
-unfolding record_in
-too_few w h = rw (lt-leb record_size (length w) h)

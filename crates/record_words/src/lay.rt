@@ -43,15 +43,11 @@ fn stream_words(s: Stream) -> [u32; STREAM_WORDS]
     ensures { result ≡ stream_words s }
 {
     let c = s.config;
-    let x = c.freq;
-    let f = c.form;
-    let choice = freq_choice(x);
-    let number = freq_number(x);
-    let form = form_words(f);
+    let form = form_words(c.form);
     [
         c.core,
-        choice,
-        number,
+        freq_choice(c.freq),
+        freq_number(c.freq),
         c.channels,
         c.flag,
         c.depends,
@@ -67,25 +63,22 @@ fn stream_words(s: Stream) -> [u32; STREAM_WORDS]
 }
 
 // Words from place `at` on; the place behind them.
+#[tactic(auto, using(crate::proofs::Words::copied))]
 fn lay(out: &mut [u32], at: usize, src: &[u32]) -> usize
     requires { at + length src.now ≤ length out.old }
     ensures { (result ≡ at + length src.now)
         × Stored out.old at src.now out.new result }
 {
-    let mut i: usize = 0;
-    while i < src.len() {
-        out[at + i] = src[i];
-        i += 1;
-    }
-    at + src.len()
+    let to = at + src.len();
+    out[at..to].copy_from_slice(src);
+    to
 }
 
 fn lay_stream(out: &mut [u32], at: usize, s: Stream) -> usize
     requires { at + stream_size ≤ length out.old }
     ensures { (result ≡ at + stream_size) × Stored out.old at (stream_words s) out.new result }
 {
-    let words = stream_words(s);
-    lay(out, at, &words)
+    lay(out, at, &stream_words(s))
 }
 
 fn lay_streams(out: &mut [u32], at: usize, streams: [Stream; 16]) -> usize
@@ -94,20 +87,10 @@ fn lay_streams(out: &mut [u32], at: usize, streams: [Stream; 16]) -> usize
         × Stored out.old at (streams_words streams) out.new result }
 {
     let mut to = at;
-    let mut i: usize = 0;
-    while i < 16 {
-        let s = streams[i];
+    for s in streams {
         to = lay_stream(out, to, s);
-        i += 1;
     }
     to
-}
-
-fn lay_layers(out: &mut [u32], at: usize, layers: [u32; 16]) -> usize
-    requires { at + 16 ≤ length out.old }
-    ensures { (result ≡ at + 16) × Stored out.old at layers out.new result }
-{
-    lay(out, at, &layers)
 }
 
 fn lay_head(out: &mut [u32], r: Record) -> usize
@@ -133,14 +116,13 @@ fn lay_all(out: &mut [u32], r: Record) -> usize
     requires { record_size ≤ length out.old }
     ensures { (result ≡ record_size) × Stored out.old 0 (words_of r) out.new result }
 {
-    let layers = r.layers;
-    let streams = r.streams;
     let head = lay_head(out, r);
-    let first = lay_layers(out, head, layers);
-    lay_streams(out, first, streams)
+    let first = lay(out, head, &r.layers);
+    lay_streams(out, first, r.streams)
 }
 
 // Lays the words at the start, where there is room for them.
+#[tactic(auto, unfolding(crate::specs::Words::laid_in))]
 pub fn lay_record(out: &mut [u32], r: Record) -> bool
     ensures { LayPromise r out.old result out.new }
 {

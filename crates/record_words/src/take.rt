@@ -58,10 +58,10 @@ const RECORD_CRC: usize = 9;
 fn freq_from(choice: u32, n: u32) -> Freq
     ensures { result ≡ freq_from choice n }
 {
-    if choice == 0 {
-        return Freq::Index(n);
+    match choice {
+        0 => Freq::Index(n),
+        _ => Freq::Hz(n),
     }
-    Freq::Hz(n)
 }
 
 fn form_from(tag: u32, x: Freq, ps: u32) -> Form
@@ -102,16 +102,13 @@ fn stream_from(w: &[u32]) -> Stream
     }
 }
 
+#[tactic(auto, using(crate::proofs::Words::layers_part))]
 fn layers_from(w: &[u32]) -> [u32; 16]
     requires { record_size ≤ length w.now }
     ensures { result ≡ layers_from w.now }
 {
-    let mut layers = [0u32; 16];
-    let mut p: usize = 0;
-    while p < 16 {
-        layers[p] = w[LAYERS_AT + p];
-        p += 1;
-    }
+    let mut layers = [0; 16];
+    layers.copy_from_slice(&w[LAYERS_AT..STREAMS_AT]);
     layers
 }
 
@@ -119,13 +116,9 @@ fn streams_from(w: &[u32]) -> [Stream; 16]
     requires { record_size ≤ length w.now }
     ensures { result ≡ streams_from w.now }
 {
-    let blank = no_stream();
-    let mut streams = [blank; 16];
-    let mut i: usize = 0;
-    while i < 16 {
-        let s = stream_from(&w[STREAMS_AT + STREAM_WORDS * i..]);
-        streams[i] = s;
-        i += 1;
+    let mut streams = [no_stream(); 16];
+    for i in 0..16 {
+        streams[i] = stream_from(&w[STREAMS_AT + STREAM_WORDS * i..]);
     }
     streams
 }
@@ -134,8 +127,6 @@ fn record_from(w: &[u32]) -> Record
     requires { record_size ≤ length w.now }
     ensures { result ≡ record_from w.now }
 {
-    let layers = layers_from(w);
-    let streams = streams_from(w);
     Record {
         version: w[RECORD_VERSION],
         subversion: w[RECORD_SUBVERSION],
@@ -147,22 +138,9 @@ fn record_from(w: &[u32]) -> Record
         bits: w[RECORD_BITS],
         checked: w[RECORD_CHECKED],
         crc: w[RECORD_CRC],
-        layers: layers,
-        streams: streams,
+        layers: layers_from(w),
+        streams: streams_from(w),
     }
-}
-
-fn same_words(a: &[u32], b: &[u32]) -> bool
-    requires { (record_size ≤ length a.now) × (record_size ≤ length b.now) }
-    ensures { result ≡ same_words a.now b.now }
-{
-    let mut same = true;
-    let mut i: usize = 0;
-    while i < RECORD_WORDS {
-        same = same & (a[i] == b[i]);
-        i += 1;
-    }
-    same
 }
 
 // Whether the words of a record are these.
@@ -172,10 +150,11 @@ fn has_words(r: Record, w: &[u32]) -> bool
 {
     let mut words = [0u32; RECORD_WORDS];
     lay_record(&mut words, r);
-    same_words(&words, w)
+    words[..] == w[..RECORD_WORDS]
 }
 
 // The record that the first RECORD_WORDS words are, or the blank one.
+#[tactic(auto, unfolding(crate::specs::Words::record_in))]
 pub fn record_in(w: &[u32]) -> Record
     ensures { result ≡ record_in w.now }
 {

@@ -46,8 +46,8 @@ to_last x a b c = grind arith
 
 stream_is : (a b : Stream) → (stream.ghosts).eq a b ≡ same_stream a b
 stream_is a b =
-    rw (← config_is a.config b.config)
-    (to_last ((config.ghosts).eq a.config b.config) (eqb a.kind b.kind) (eqb a.fullness b.fullness) (eqb a.fixed b.fixed))
+    let c = (config.ghosts).eq a.config b.config in
+    rw (← config_is a.config b.config) (to_last c (eqb a.kind b.kind) (eqb a.fullness b.fullness) (eqb a.fixed b.fixed))
 
 pub blank_is : (s : Stream) → (stream.ghosts).eq s no_stream ≡ blank_stream s
 blank_is s =
@@ -71,7 +71,8 @@ layers_are = pointwise_is 0 eqb eqb (λ a b. refl) Decides-eqb 16
 
 streams_are : (a b : List Stream) → length a ≡ 16 → length b ≡ 16
     → pointwise ((stream.ghosts).eq) a b ≡ same_streams a b
-streams_are = pointwise_is no_stream _ same_stream stream_is (λ a b. (same_stream_eq a b, λ e. rw e (same_stream_refl b))) 16
+streams_are =
+    pointwise_is no_stream _ same_stream stream_is (λ a b. (same_stream_eq a b, λ e. rw e (same_stream_refl b))) 16
 
 two_last : (h x y a b c d : Bool) → (h && x && y && a && b && c && d) ≡ (h && a && b && c && d && x && y)
 two_last h x y a b c d = grind arith

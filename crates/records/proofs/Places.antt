@@ -21,9 +21,11 @@ module _ {A : Type 0} (f : ℕ → A → Bool) (d : A) (xs : List A) where
       let l : length numbered ≡ length xs = length-enumerate_from 0 xs in
       let e : get_or numbered i (0, d) ≡ (0 + i, get_or xs i d) = get_or-enumerate_from 0 xs i (0, d) (omega arith) in
       let z : 0 + i ≡ i = omega arith in
-      rw (← add-one i, list_all_more (λ x. f x.0 x.1) numbered i (0, d) (omega (arith, l)), so_far i (omega arith), e, z)
+      let m = list_all_more (λ x. f x.0 x.1) numbered i (0, d) (omega (arith, l)) in
+      rw (← add-one i, m, so_far i (omega arith), e, z)
 
-  pub each_place : (n : ℕ) → length xs ≡ n → list_all (λ x. f x.0 x.1) (enumerate_from 0 xs) ≡ all_of n (λ i. f i (get_or xs i d))
+  pub each_place : (n : ℕ) → length xs ≡ n
+      → list_all (λ x. f x.0 x.1) (enumerate_from 0 xs) ≡ all_of n (λ i. f i (get_or xs i d))
   unfolding numbered
   each_place n l =
       let m : length numbered ≡ length xs = length-enumerate_from 0 xs in

@@ -95,7 +95,6 @@ pub fn no_stream() -> Stream
 pub fn no_record() -> Record
     ensures { result ≡ no_record }
 {
-    let blank = no_stream();
     Record {
         version: 0,
         subversion: 0,
@@ -104,7 +103,7 @@ pub fn no_record() -> Record
         subframes: 0,
         programs: 0,
         layers: [0; 16],
-        streams: [blank; 16],
+        streams: [no_stream(); 16],
         other: 0,
         bits: 0,
         checked: 0,

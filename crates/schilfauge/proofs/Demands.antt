@@ -5,40 +5,40 @@ use mathlib.Core.List.{List, []}
 use Prim.Native.Nat.{ℕ, ◌≤◌}
 use native.Mathlib.Omega.{arith}
 use lib.ListN.{length, get_or}
+use Rattle.std.specs.Prelude.{Result, Ok, Err}
 use Rattle.kernel.specs.declared.Refusal.{Refusal}
 use Rattle.kernel.specs.Bits.{bit}
-use Rattle.element.specs.declared.Held.{Held}
-use Rattle.element.specs.declared.Verdict.{Verdict}
-use Rattle.element.specs.declared.Verdict.TheVariants.{Accepted, Refused}
-use Rattle.element.specs.Reply.{answer, verdict_of}
+use Rattle.element.specs.Held.{Held}
+use Rattle.element.specs.declared.Accepted.{Accepted}
+use Rattle.element.specs.Reply.{answer, accepts, verdict_of}
 use Rattle.element.proofs.Theorems.{same_when_refused}
 use Rattle.element.proofs.Demands as element
-use Rattle.schilfauge.specs.Lent.{held_in, answer_in, held_after, read_number, answer_words}
+use Rattle.schilfauge.specs.Lent.{held_in, answer_in, held_after, number_of, answer_words}
 use Rattle.schilfauge.proofs.Numbers.{held_stays}
 use Rattle.schilfauge.proofs.Theorems.{next_finds_held}
 use Rattle.schilfauge.specs.Demands.{left_by, PromisedIsLeft, ShownTile, ShownOnce, ShownCount, SameLeft}
 use Rattle.schilfauge.specs.Demands.{SameLeftRefused, RefusedLeft, RefusedTold, AcceptedTold, AcceptedFits}
 use Rattle.schilfauge.specs.Demands.{NextIsNot4}
 
-record Accepts (v : Verdict) : Type 0 where
+record Accepts (v : Result Accepted Refusal) : Type 0 where
   items : ℕ
   fields : ℕ
   sent : Bool
-  is : v ≡ Accepted items fields sent
+  is : v ≡ accepts items fields sent
 
 -- 0 is no refusal
-accepts : (v : Verdict) → ((x : Refusal) → v ≡ Refused x → 1 ≤ x.number) → read_number v ≡ 0 → Accepts v
-accepts (Accepted k n sent) h e = record { items = k; fields = n; sent = sent; is = refl }
-accepts (Refused x) h e = absurd (omega (arith, h x refl))
+accepted_by : (v : Result Accepted Refusal) → ((x : Refusal) → v ≡ Err x → 1 ≤ x.number) → number_of v ≡ 0 → Accepts v
+accepted_by (Ok a) h e = record { items = a.items; fields = a.fields; sent = a.sent; is = refl }
+accepted_by (Err x) h e = absurd (omega (arith, h x refl))
 
-record Refuses (v : Verdict) : Type 0 where
+record Refuses (v : Result Accepted Refusal) : Type 0 where
   refusal : Refusal
-  is : v ≡ Refused refusal
+  is : v ≡ Err refusal
 
 -- and another number is one
-refuses : (v : Verdict) → ¬ (read_number v ≡ 0) → Refuses v
-refuses (Accepted k n sent) h = absurd (h refl)
-refuses (Refused x) h = record { refusal = x; is = refl }
+refuses : (v : Result Accepted Refusal) → ¬ (number_of v ≡ 0) → Refuses v
+refuses (Ok a) h = absurd (h refl)
+refuses (Err x) h = record { refusal = x; is = refl }
 
 is_sent : (b : Bool) → bit b ≡ 1 → b ≡ true
 is_sent true e = refl
@@ -49,11 +49,11 @@ promised_is_left s held map r held' map' told' p =
     λ i. record { number = p.0 i; held = p.1.0 i; map = p.1.1.0 i; told = p.1.1.1 i }
 
 module _ (s held map : List ℕ) where
-  abbrev verdict : Verdict
+  abbrev verdict : Result Accepted Refusal
   verdict = verdict_of (answer_in s held (length map))
 
-  accepted : read_number verdict ≡ 0 → Accepts verdict
-  accepted = accepts verdict (λ x e. (element.refused_left s (held_in held) map [] x e).0)
+  accepted : number_of verdict ≡ 0 → Accepts verdict
+  accepted = accepted_by verdict (λ x e. (element.refused_left s (held_in held) map [] x e).0)
 
   pub refused_told : RefusedTold s held map
   refused_told x e = rw e (refl, refl)
@@ -85,15 +85,15 @@ module _ (s held map : List ℕ) where
   pub next_is_not_4 : NextIsNot4 s held map
   next_is_not_4 e b t more four =
       let a = accepted e in
-      let sent : a.sent ≡ true = is_sent a.sent (sym (ap (λ (v : Verdict). get_or (answer_words v) 3 0) a.is)
+      let sent : a.sent ≡ true = is_sent a.sent (sym (ap (λ (v : Result Accepted Refusal). get_or (answer_words v) 3 0) a.is)
       ∙ b) in
       let r =
       refuses (verdict_of (answer_in t (held_after held (answer_in s held (length map))) (length more)))
       (λ z. omega arith) in
       let found = ap (λ (h : Held). verdict_of (answer t h (length more))) (sym (next_finds_held s held (length map))) in
       element.next_left_is_not_4 s (held_in held) map [] _ _ (a.is
-      ∙ ap (Accepted a.items a.fields) sent) t more [] r.refusal
-      (found ∙ r.is) (sym (ap read_number r.is) ∙ four)
+      ∙ ap (accepts a.items a.fields) sent) t more [] r.refusal
+      (found ∙ r.is) (sym (ap number_of r.is) ∙ four)
 
   pub refused_left : RefusedLeft s held map
   refused_left h =

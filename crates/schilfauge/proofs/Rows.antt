@@ -9,7 +9,7 @@ use Rattle.records.specs.declared.Record.{Record}
 use Rattle.records.specs.Blank.{no_stream}
 use Rattle.records.specs.Table.{share_of, streams_in, table_of}
 use Rattle.records.proofs.Tables.{cell_at, cell_there}
-use Rattle.row.specs.declared.Rowed.TheVariants.{Is}
+use Rattle.std.specs.Prelude.{Some}
 use Rattle.row.specs.Row.{row_of}
 use Rattle.row.specs.Claims.{IsThere}
 use Rattle.row.proofs.Theorems.{rows_found, rows_absent}
@@ -30,7 +30,7 @@ module _ (r : Record) (p l : ℕ) where
 
   pub words_there : IsThere r p l
       → row_at r (table_of r.layers r.programs) p l
-      ≡ row_words (first + l) (Is (row_of p l (get_or r.streams (first + l) no_stream)))
+      ≡ row_words (first + l) (Some (row_of p l (get_or r.streams (first + l) no_stream)))
   words_there h = rw (rows_found r p l h, stream_there h) refl
 
   pub words_absent : ¬ IsThere r p l → row_at r (table_of r.layers r.programs) p l ≡ pos 255 ∷ replicate 8 (pos 0)

@@ -4,6 +4,7 @@ use mathlib.Core.Bool.{Bool, true, false, cond}
 use mathlib.Core.List.{List}
 use Prim.Native.Nat.{ℕ}
 use lib.ListN.{length}
+use Rattle.std.specs.Prelude.{Some}
 use Rattle.kernel.specs.Element.{Answer, accepted, rejected}
 use Rattle.records.specs.declared.Record.{Record}
 use Rattle.records.specs.Table.{table_of}
@@ -32,7 +33,7 @@ pub laid_is_held : LaidIsHeld
 laid_is_held = held_laid
 
 held_next : (t : Bool) (w : List ℕ) (r : Record) → Applies (held_in w) t r
-    → held_in (cond t (held_words r) w) ≡ cond t (record { present = true; config = r }) (held_in w)
+    → held_in (cond t (held_words r) w) ≡ cond t (Some r) (held_in w)
 held_next true w r h = held_laid r h.layers h.streams
 held_next false w r h = refl
 

@@ -8,13 +8,14 @@ use native.Mathlib.Omega.{arith}
 use lib.Dec.{leb}
 use lib.ListN.{length, get_or, take}
 use lib.Seq.{take-length, length-take-le}
+use Rattle.std.specs.Prelude.{Some, Result, Ok}
+use Rattle.kernel.specs.declared.Refusal.{Refusal}
 use Rattle.kernel.specs.Bits.{bit}
 use Rattle.kernel.proofs.Lists.{length-tab}
 use Rattle.records.specs.Blank.{no_record}
 use Rattle.records.specs.Valid.{valid_of}
 use Rattle.record_words.specs.Words.{record_size, words_of, record_from, same_words, record_in}
 use Rattle.record_words.proofs.Theorems.{found_has_the_words, blank_is_refused}
-use Rattle.sync.specs.declared.Framed.TheVariants as framed
 use Rattle.sync.specs.Sync.{framed_of}
 use Rattle.sync.specs.Sync as sync
 use Rattle.sync.specs.Promises as promises
@@ -22,16 +23,14 @@ use Rattle.sync.specs.Claims.{FoundAt}
 use Rattle.sync.proofs.Theorems.{right_is_framed, element_is_inside, written_is_found}
 use Rattle.element.specs.Reply.{verdict_of}
 use Rattle.kernel.proofs.Kept.{chosen}
-use Rattle.writer.specs.declared.Written.{Written}
-use Rattle.writer.specs.declared.Written.TheVariants as written
 use Rattle.writer.specs.Written.{Sent}
 use Rattle.writer.specs.Write.{written_of, out_after}
 use Rattle.writer.specs.Claims.{Typed, ReadsBack}
 use Rattle.writer.proofs.Whole.{not_sent}
 use Rattle.writer.proofs.Back.{shows_back}
 use Rattle.writer.proofs.Theorems.{written_reads_back, bytes_behind_stay, done_is_right}
-use Rattle.schilfauge.specs.Lent.{hunt_number, found_after, held_in, held_words, held_after, read_number, answer_words}
-use Rattle.schilfauge.specs.Lent.{sent_in, write_number, written_after, frame_number, framed_after}
+use Rattle.schilfauge.specs.Lent.{number_of, found_after, held_in, held_words, held_after, answer_words}
+use Rattle.schilfauge.specs.Lent.{sent_in, told_after}
 use Rattle.schilfauge.specs.Promises.{HuntPromise, ReadPromise, FramePromise}
 use Rattle.schilfauge.specs.Claims.{element_in, FoundBack, ReadBack, Trip}
 use Rattle.schilfauge.proofs.Words.{held_laid}
@@ -62,20 +61,20 @@ shown : (s el : List ℕ) (p : ℕ) → FoundAt s p el → (found : List ℕ) (x
     → (x ≡ 0) × (found' ≡ p ∷ length el ∷ []) × (element_in s found' ≡ el)
 shown s el p (h, e) found x found' q =
     let f : found' ≡ p ∷ length el ∷ [] = q.1 ∙ ap (found_after found) h in
-    (q.0 ∙ ap hunt_number h, f, rw f (sym (element_is_inside s p p (length el) h).4 ∙ e))
+    (q.0 ∙ ap number_of h, f, rw f (sym (element_is_inside s p p (length el) h).4 ∙ e))
 
 module _ (el out : List ℕ) (size x : ℕ) (out' : List ℕ) (size' : ℕ) (promise : FramePromise el out size x out' size')
     (some : 1 ≤ length el) (few : length el ≤ 8191) (room : 3 + length el ≤ length out) where
-  done : framed_of el (length out) ≡ framed.Done (3 + length el)
+  done : framed_of el (length out) ≡ Ok (3 + length el)
   done = right_is_framed el (length out) some few room
 
-  laid : promises.FramePromise el out (framed.Done (3 + length el)) out'
+  laid : promises.FramePromise el out (Ok (3 + length el)) out'
   laid = (sym done, promise.1.0 ∙ ap (sync.out_after el out) done)
 
   framed_back : (x ≡ 0) × FoundBack el (take size' out')
   framed_back =
-      let n : size' ≡ 3 + length el = promise.1.1 ∙ ap (framed_after size) done in (
-        promise.0 ∙ ap frame_number done,
+      let n : size' ≡ 3 + length el = promise.1.1 ∙ ap (told_after size) done in (
+        promise.0 ∙ ap number_of done,
         rw n
             (λ before more f h. shown _ el (length before)
             (written_is_found before el out (3 + length el) out' more laid f h)),
@@ -95,7 +94,7 @@ module _ (w : Sent) (words el held map : List ℕ) (own : words_of w.config ≡ 
   read_back x held' map' told' p h b = record {
     items = length b.items;
     fields = b.count;
-    number = p.0 ∙ ap (λ z. read_number (verdict_of z)) b.accepts;
+    number = p.0 ∙ ap (λ z. number_of (verdict_of z)) b.accepts;
     tells = p.1.1.1 ∙ ap (λ z. answer_words (verdict_of z)) b.accepts;
     holds = p.1.0 ∙ ap (held_after held) b.accepts ∙ then_held w.send h;
     shows = rw p.1.1.0 (shows_back w el (held_in held) map b);
@@ -110,18 +109,18 @@ module _ (words : List ℕ) (l : length words ≡ record_size) (small : (i : ℕ
 
   same_held : (held : List ℕ) → words_of (record_in words) ≡ words → Typed (record_in words)
       → (send ≡ true) ⊎ (held ≡ words ++ (1 ∷ []))
-      → (send ≡ true) ⊎ (held_in held ≡ record { present = true; config = record_in words })
+      → (send ≡ true) ⊎ (held_in held ≡ Some (record_in words))
   same_held held own t (inl e) = inl e
   same_held held own t (inr e) =
       let q : held ≡ held_words (record_in words) = e ∙ ap (λ (x : List ℕ). x ++ (1 ∷ [])) (sym own) in
       inr (ap held_in q ∙ held_laid (record_in words) t.0 t.1)
 
-  pub trip : write_number (written_of w (length out)) ≡ 0
-      → Trip w words (take (written_after size (written_of w (length out))) (out_after w out (written_of w (length out))))
+  pub trip : number_of (written_of w (length out)) ≡ 0
+      → Trip w words (take (told_after size (written_of w (length out))) (out_after w out (written_of w (length out))))
   trip e =
-      let n = written_after size (written_of w (length out)) in
+      let n = told_after size (written_of w (length out)) in
       let d : written_of w (length out)
-      ≡ written.Done n = done_0 size (written_of w (length out)) (written_16 w (length out)) e in
+      ≡ Ok n = done_0 size (written_of w (length out)) (written_16 w (length out)) e in
       let r = done_is_right w (length out) n d in
       let el = take n (out_after w out (written_of w (length out))) in
       let k : length el ≡ n =
@@ -136,6 +135,6 @@ module _ (words : List ℕ) (l : length words ≡ record_size) (small : (i : ℕ
         read = λ held map x held' map' told' p h room.
             let q = same_held held own t h in
             read_back w words el held map own x held' map' told' p h
-            (subst (λ (z : Written). ReadsBack w (take n (out_after w out z)) (held_in held) (length map)) (sym d)
+            (subst (λ (z : Result ℕ Refusal). ReadsBack w (take n (out_after w out z)) (held_in held) (length map)) (sym d)
             (written_reads_back w out n t d (held_in held) q (length map) room));
       }

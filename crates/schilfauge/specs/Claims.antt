@@ -1,5 +1,5 @@
 -- What is claimed of the words lent. proofs/Theorems.antt has the theorem of each.
-use Rattle.std.specs.Prelude.{◌≡◌, Bool, true, cond, ◌⊎◌, List, [], ◌∷◌, ◌++◌, ℕ, ◌+◌, ◌^◌, ◌≤◌, ◌<◌, length, get_or, take, drop, replicate, ℤ, pos}
+use Rattle.std.specs.Prelude.{◌≡◌, Bool, true, cond, ◌⊎◌, List, [], ◌∷◌, ◌++◌, ℕ, ◌+◌, ◌^◌, ◌≤◌, ◌<◌, length, get_or, take, drop, replicate, ℤ, pos, Some, Err}
 use Rattle.kernel.specs.declared.Refusal.{Refusal}
 use Rattle.kernel.specs.Bits.{bit}
 use Rattle.kernel.specs.Reading.{Stop}
@@ -11,18 +11,14 @@ use Rattle.records.specs.Valid.{valid_of}
 use Rattle.record_words.specs.Words.{record_size}
 use Rattle.row.specs.Row.{row_of}
 use Rattle.row.specs.Claims.{IsThere}
-use Rattle.sync.specs.declared.Hunted.TheVariants as hunted
-use Rattle.sync.specs.declared.Framed.TheVariants as framed
 use Rattle.sync.specs.Sync.{hunt_of, framed_of}
 use Rattle.sync.specs.Claims.{Frame}
 use Rattle.element.specs.Reply.{verdict_of, reply_of}
-use Rattle.writer.specs.declared.Written.TheVariants as written
 use Rattle.writer.specs.Written.{Sent}
 use Rattle.writer.specs.Write.{written_of}
 use Rattle.element.specs.Left.{shown}
 use Rattle.writer.specs.Claims.{Shows}
-use Rattle.schilfauge.specs.Lent.{hunt_number, held_in, held_words, answer_in, held_after, read_number, sent_in}
-use Rattle.schilfauge.specs.Lent.{write_number, frame_number}
+use Rattle.schilfauge.specs.Lent.{number_of, held_in, held_words, answer_in, held_after, sent_in}
 use Rattle.schilfauge.specs.Promises.{HuntPromise, ReadPromise, RowPromise, WritePromise, FramePromise}
 
 -- ---- words laid are found again
@@ -31,7 +27,7 @@ use Rattle.schilfauge.specs.Promises.{HuntPromise, ReadPromise, RowPromise, Writ
 abbrev pub LaidIsHeld : Type 0
 LaidIsHeld =
     (r : Record) → length r.layers ≡ 16 → length r.streams ≡ 16
-    → held_in (held_words r) ≡ record { present = true; config = r }
+    → held_in (held_words r) ≡ Some r
 
 -- so what a reading leaves held, the next one finds
 abbrev pub NextFindsHeld : Type 0
@@ -130,22 +126,22 @@ WrittenComesBack =
 -- a refusal of the hunt is 20, so 0 means that a frame was found
 abbrev pub RefusedIs20 : Type 0
 RefusedIs20 =
-    (s : List ℕ) (start : ℕ) (x : Refusal) → hunt_of s start ≡ hunted.Refused x → hunt_number (hunt_of s start) ≡ 20
+    (s : List ℕ) (start : ℕ) (x : Refusal) → hunt_of s start ≡ Err x → number_of (hunt_of s start) ≡ 20
 
 -- a refusal of the reader is 1 to 15, so 0 means that the element was accepted
 abbrev pub RefusedIs1To15 : Type 0
 RefusedIs1To15 = (s w : List ℕ) (room : ℕ) (r : Stop) (items : List Item) → answer_in s w room ≡ rejected r items
-    → (1 ≤ read_number (verdict_of (answer_in s w room))) × (read_number (verdict_of (answer_in s w room)) ≤ 15)
+    → (1 ≤ number_of (verdict_of (answer_in s w room))) × (number_of (verdict_of (answer_in s w room)) ≤ 15)
 
 -- a refusal of the writer is 16 to 19, so 0 means that the element was written
 abbrev pub RefusedIs16To19 : Type 0
-RefusedIs16To19 = (w : Sent) (room : ℕ) (x : Refusal) → written_of w room ≡ written.Refused x
-    → (16 ≤ write_number (written_of w room)) × (write_number (written_of w room) ≤ 19)
+RefusedIs16To19 = (w : Sent) (room : ℕ) (x : Refusal) → written_of w room ≡ Err x
+    → (16 ≤ number_of (written_of w room)) × (number_of (written_of w room) ≤ 19)
 
 -- and one of the writer of frames 2 or 19
 abbrev pub RefusedIs2Or19 : Type 0
-RefusedIs2Or19 = (s : List ℕ) (room : ℕ) (x : Refusal) → framed_of s room ≡ framed.Refused x
-    → (frame_number (framed_of s room) ≡ 2) ⊎ (frame_number (framed_of s room) ≡ 19)
+RefusedIs2Or19 = (s : List ℕ) (room : ℕ) (x : Refusal) → framed_of s room ≡ Err x
+    → (number_of (framed_of s room) ≡ 2) ⊎ (number_of (framed_of s room) ≡ 19)
 
 -- ---- each promise allows one number, and one content of all that is lent
 

@@ -1,16 +1,15 @@
 -- The demands, of what `schilf_read` leaves behind: its number, the words held, the map and the words told.
 -- proofs/Demands.antt has the theorem of each.
-use Rattle.std.specs.Prelude.{◌≡◌, Bool, List, [], ◌∷◌, ℕ, ◌+◌, ◌*◌, ◌≤◌, ◌<◌, length, get_or}
+use Rattle.std.specs.Prelude.{◌≡◌, Bool, List, [], ◌∷◌, ℕ, ◌+◌, ◌*◌, ◌≤◌, ◌<◌, length, get_or, Result, Err}
 use Rattle.kernel.specs.declared.Refusal.{Refusal}
 use Rattle.kernel.specs.Bits.{bit, bit_at}
 use Rattle.kernel.specs.Reading.{Stop}
 use Rattle.kernel.specs.Element.{Item, Answer, rejected, Tiles, OneItem, InClosed, sum_passed}
-use Rattle.element.specs.declared.Verdict.{Verdict}
-use Rattle.element.specs.declared.Verdict.TheVariants.{Accepted, Refused}
+use Rattle.element.specs.declared.Accepted.{Accepted}
 use Rattle.element.specs.Mux.{Applied}
-use Rattle.element.specs.Reply.{verdict_of, map_after}
+use Rattle.element.specs.Reply.{accepts, verdict_of, map_after}
 use Rattle.element.specs.Left.{shown}
-use Rattle.schilfauge.specs.Lent.{answer_in, held_after, read_number, answer_words}
+use Rattle.schilfauge.specs.Lent.{answer_in, held_after, number_of, answer_words}
 use Rattle.schilfauge.specs.Promises.{ReadPromise}
 
 -- what `schilf_read` leaves behind
@@ -24,7 +23,7 @@ pub record Left : Type 0 where
 abbrev pub left_by : List ℕ → List ℕ → Answer Applied → Left
 left_by held map z =
     record {
-      number = read_number (verdict_of z);
+      number = number_of (verdict_of z);
       held = held_after held z;
       map = map_after map z;
       told = answer_words
@@ -64,19 +63,19 @@ module _ (s held map : List ℕ) where
   abbrev left : Left
   left = left_of s held map
 
-  abbrev verdict : Verdict
+  abbrev verdict : Result Accepted Refusal
   verdict = verdict_of (answer_in s held (length map))
 
   -- a refusal answers its number, and tells its place and the fields read;
   abbrev pub RefusedTold : Type 0
   RefusedTold =
-      (x : Refusal) → verdict ≡ Refused x
+      (x : Refusal) → verdict ≡ Err x
       → (left.number ≡ x.number) × (left.told ≡ 0 ∷ x.place ∷ x.fields ∷ 0 ∷ [])
 
   -- an accepted element answers 0, and tells its items, the fields read, and whether a configuration was sent
   abbrev pub AcceptedTold : Type 0
   AcceptedTold =
-      (items fields : ℕ) (sent : Bool) → verdict ≡ Accepted items fields sent
+      (items fields : ℕ) (sent : Bool) → verdict ≡ accepts items fields sent
       → (left.number ≡ 0) × (left.told ≡ items ∷ 0 ∷ fields ∷ bit sent ∷ [])
 
   -- 0: the element has 1 to 8,191 bytes and the map 4,368 numbers or more,

@@ -1,6 +1,6 @@
 -- What the functions answer, and what then stands in the words lent to them. A refusal is answered by its number, and 0
 -- says that there is none.
-use Rattle.std.specs.Prelude.{Bool, cond, List, [], ◌∷◌, ◌++◌, ℕ, eqb, ltb, get_or, ℤ, pos}
+use Rattle.std.specs.Prelude.{Bool, cond, List, [], ◌∷◌, ◌++◌, ℕ, eqb, ltb, get_or, ℤ, pos, false, Option, Some, None, Result, Ok, Err}
 use Rattle.kernel.specs.Bits.{bit}
 use Rattle.kernel.specs.Element.{Answer, accepted, rejected}
 use Rattle.records.specs.declared.Record.{Record}
@@ -8,38 +8,37 @@ use Rattle.records.specs.Valid.{valid_of}
 use Rattle.records.specs.Table.{table_of}
 use Rattle.record_words.specs.Words.{record_size, words_of, record_in}
 use Rattle.sync.specs.declared.Hunted.{Hunted}
-use Rattle.sync.specs.declared.Hunted.TheVariants as hunted
-use Rattle.sync.specs.declared.Framed.{Framed}
-use Rattle.sync.specs.declared.Framed.TheVariants as framed
-use Rattle.element.specs.declared.Held.{Held}
-use Rattle.element.specs.declared.Verdict.{Verdict}
-use Rattle.element.specs.declared.Verdict.TheVariants.{Accepted, Refused}
+use Rattle.kernel.specs.declared.Refusal.{Refusal}
+use Rattle.element.specs.declared.Accepted.{Accepted}
+use Rattle.element.specs.Held.{Held}
 use Rattle.element.specs.Mux.{Applied}
 use Rattle.element.specs.Reply.{answer}
-use Rattle.row.specs.declared.Rowed.{Rowed}
-use Rattle.row.specs.declared.Rowed.TheVariants.{Is, Absent}
+use Rattle.row.specs.declared.Row.{Row}
 use Rattle.row.specs.Row.{row_in}
-use Rattle.writer.specs.declared.Written.{Written}
-use Rattle.writer.specs.declared.Written.TheVariants as written
 use Rattle.writer.specs.Written.{Sent, to_send}
+
+-- 0, or the number of the refusal
+abbrev pub number_of : {A : Type 0} → Result A Refusal → ℕ
+number_of (Ok a) = 0
+number_of (Err x) = x.number
+
+-- what is told where nothing was refused, or what stood there
+abbrev pub told_after : {A : Type 0} → A → Result A Refusal → A
+told_after old (Ok a) = a
+told_after old (Err x) = old
 
 -- ---- hunting
 
--- 0, or the number of the refusal
-abbrev pub hunt_number : Hunted → ℕ
-hunt_number (hunted.Found place size) = 0
-hunt_number (hunted.Refused x) = x.number
-
 -- the place of the frame and the bytes of its element, or the words as they stood
-abbrev pub found_after : List ℕ → Hunted → List ℕ
-found_after found (hunted.Found place size) = place ∷ size ∷ []
-found_after found (hunted.Refused x) = found
+abbrev pub found_after : List ℕ → Result Hunted Refusal → List ℕ
+found_after found (Ok h) = h.place ∷ h.size ∷ []
+found_after found (Err x) = found
 
 -- ---- reading
 
 -- what words hold: the record that the first of them are, present where the one behind these is 1
 abbrev pub held_in : List ℕ → Held
-held_in w = record { present = eqb (get_or w record_size 0) 1; config = record_in w }
+held_in w = cond (eqb (get_or w record_size 0) 1) (Some (record_in w)) None
 
 -- the words of a record that is present
 abbrev pub held_words : Record → List ℕ
@@ -54,21 +53,25 @@ abbrev pub held_after : List ℕ → Answer Applied → List ℕ
 held_after w (accepted a items n) = cond a.sent (held_words a.config) w
 held_after w (rejected r items) = w
 
--- the same, of a verdict and the configuration beside it: by this an inner function promises
-abbrev pub kept_after : List ℕ → Verdict → Record → List ℕ
-kept_after w (Accepted items fields sent) r = cond sent (held_words r) w
-kept_after w (Refused x) r = w
+-- whether a configuration was sent
+abbrev pub has_sent : Result Accepted Refusal → Bool
+has_sent (Ok a) = a.sent
+has_sent (Err x) = false
 
--- 0, or the number of the refusal
-abbrev pub read_number : Verdict → ℕ
-read_number (Accepted items fields sent) = 0
-read_number (Refused x) = x.number
+-- the words of what is held, or as they stood
+abbrev pub words_or : List ℕ → Held → List ℕ
+words_or w (Some r) = held_words r
+words_or w None = w
+
+-- the same, of a verdict and what is held beside it: by this an inner function promises
+abbrev pub kept_after : List ℕ → Result Accepted Refusal → Held → List ℕ
+kept_after w v held = cond (has_sent v) (words_or w held) w
 
 -- items, place, fields read, and whether a configuration was sent; only a refusal has a place, and only an accepted
 -- element items
-abbrev pub answer_words : Verdict → List ℕ
-answer_words (Accepted items fields sent) = items ∷ 0 ∷ fields ∷ bit sent ∷ []
-answer_words (Refused x) = 0 ∷ x.place ∷ x.fields ∷ 0 ∷ []
+abbrev pub answer_words : Result Accepted Refusal → List ℕ
+answer_words (Ok a) = a.items ∷ 0 ∷ a.fields ∷ bit a.sent ∷ []
+answer_words (Err x) = 0 ∷ x.place ∷ x.fields ∷ 0 ∷ []
 
 -- ---- rows
 
@@ -81,11 +84,11 @@ abbrev pub stream_at : List (List ℕ) → ℕ → ℕ → ℕ
 stream_at table p l = cond (ltb p 16) (cond (ltb l 8) (get_or (get_or table p []) l 0) 255) 255
 
 -- 9 words: the stream's number and its row; zeros behind 255 where there is no row
-abbrev pub row_words : ℕ → Rowed → List ℤ
-row_words stream (Is r) =
+abbrev pub row_words : ℕ → Option Row → List ℤ
+row_words stream (Some r) =
     pos stream ∷ pos r.program ∷ pos r.layer ∷ pos r.core ∷ pos r.rate ∷ pos r.output ∷ r.sbr ∷ r.ps
     ∷ pos r.channels ∷ []
-row_words stream Absent = pos 255 ∷ pos 0 ∷ pos 0 ∷ pos 0 ∷ pos 0 ∷ pos 0 ∷ pos 0 ∷ pos 0 ∷ pos 0 ∷ []
+row_words stream None = pos 255 ∷ pos 0 ∷ pos 0 ∷ pos 0 ∷ pos 0 ∷ pos 0 ∷ pos 0 ∷ pos 0 ∷ pos 0 ∷ []
 
 -- by the record's own table
 abbrev pub row_at : Record → List (List ℕ) → ℕ → ℕ → List ℤ
@@ -100,23 +103,3 @@ row_after row r p l = cond (valid_of r) (row_at r (table_of r.layers r.programs)
 -- what is to be written, with the record that the words are
 abbrev pub sent_in : List ℕ → Bool → List ℕ → List ℕ → List ℕ → Sent
 sent_in w send lengths payload other = to_send (record_in w) send lengths payload other
-
--- 0, or the number of the refusal
-abbrev pub write_number : Written → ℕ
-write_number (written.Done n) = 0
-write_number (written.Refused x) = x.number
-
--- the bytes of the element, or the number as it stood
-abbrev pub written_after : ℕ → Written → ℕ
-written_after size (written.Done n) = n
-written_after size (written.Refused x) = size
-
--- 0, or the number of the refusal
-abbrev pub frame_number : Framed → ℕ
-frame_number (framed.Done n) = 0
-frame_number (framed.Refused x) = x.number
-
--- the bytes of the frame, or the number as it stood
-abbrev pub framed_after : ℕ → Framed → ℕ
-framed_after size (framed.Done n) = n
-framed_after size (framed.Refused x) = size

@@ -5,45 +5,69 @@
 ghost use Rattle.std.specs.Prelude.{◌≡◌};
 ghost use Rattle.records.specs.Table.{table_of};
 ghost use Rattle.record_words.specs.Words.{record_in};
-ghost use Rattle.schilfauge.specs.Lent.{held_in, held_words, kept_after, read_number, answer_words, stream_at};
+ghost use Rattle.schilfauge.specs.Lent.{number_of, told_after, held_in, held_words, kept_after, has_sent, answer_words, stream_at};
 ghost use Rattle.schilfauge.specs.Lent.{row_words, row_at, sent_in};
 ghost use Rattle.schilfauge.specs.Promises.{HuntPromise, ReadPromise, RowPromise, WritePromise, FramePromise};
 
-use element::{Held, Verdict};
+use element::Accepted;
+use kernel::Refusal;
 use reader::read;
 use record_words::{RECORD_WORDS, lay_record, record_in};
 use records::{Record, table_of, valid};
-use row::{Rowed, cell_at, row_of};
-use sync::{Framed, Hunted, frame, hunt};
-use writer::{Written, write};
+use row::{Row, cell_at, row_of};
+use sync::{frame, hunt};
+use writer::write;
 
 // The words held: a record's, and behind them 1 where it is present.
 const HELD_WORDS: usize = RECORD_WORDS + 1;
+
+// The number that a function answers.
+fn number<T: Copy>(answer: Result<T, Refusal>) -> usize
+    ensures { result ≡ number_of answer }
+{
+    match answer {
+        Ok(_) => 0,
+        Err(x) => x.number,
+    }
+}
+
+// The same; where nothing was refused, what is told is stored.
+fn told<T: Copy>(answer: Result<T, Refusal>, to: &mut T) -> usize
+    ensures number { result ≡ number_of answer }
+    ensures told { to.new ≡ told_after to.old answer }
+{
+    match answer {
+        Ok(value) => {
+            *to = value;
+            0
+        }
+        Err(x) => x.number,
+    }
+}
 
 // The first frame at or after the start: its place, and the bytes of its element.
 #[unsafe(no_mangle)]
 pub extern "C" fn schilf_hunt(capture: &[u8], start: usize, found: &mut [usize; 2]) -> usize
     ensures { HuntPromise capture.now start found.old result found.new }
 {
-    match hunt(capture, start) {
-        Hunted::Found(place, size) => {
-            *found = [place, size];
-            0
-        }
-        Hunted::Refused(x) => x.number,
+    let answer = hunt(capture, start);
+    if let Ok(h) = answer {
+        *found = [h.place, h.size];
     }
+    number(answer)
 }
 
-fn held_in(words: &[u32; HELD_WORDS]) -> Held
+fn held_in(words: &[u32; HELD_WORDS]) -> Option<Record>
     ensures { result ≡ held_in words.now }
 {
-    let r = record_in(words);
-    Held {
-        present: words[RECORD_WORDS] == 1,
-        config: r,
+    if words[RECORD_WORDS] == 1 {
+        Some(record_in(words))
+    } else {
+        None
     }
 }
 
+#[tactic(auto, using(crate::proofs::Words::laid_held))]
 fn held_words(r: Record) -> [u32; HELD_WORDS]
     ensures { result ≡ held_words r }
 {
@@ -52,40 +76,33 @@ fn held_words(r: Record) -> [u32; HELD_WORDS]
     words
 }
 
-fn read_number(v: Verdict) -> usize
-    ensures { result ≡ read_number v }
-{
-    match v {
-        Verdict::Accepted(_, _, _) => 0,
-        Verdict::Refused(x) => x.number,
-    }
-}
-
-fn answer_words(v: Verdict) -> [usize; 4]
+fn answer_words(v: Result<Accepted, Refusal>) -> [usize; 4]
     ensures { result ≡ answer_words v }
 {
     match v {
-        Verdict::Accepted(items, fields, sent) => [
-            items as usize,
-            0,
-            fields as usize,
-            sent as usize,
-        ],
-        Verdict::Refused(x) => [0, x.place, x.fields, 0],
+        Ok(a) => [a.items as usize, 0, a.fields as usize, a.sent as usize],
+        Err(x) => [0, x.place, x.fields, 0],
     }
 }
 
-// A configuration that was sent and accepted is kept in the words.
-fn keep(words: &mut [u32; HELD_WORDS], v: Verdict, r: Record)
-    ensures { words.new ≡ kept_after words.old v r }
+// Whether a configuration was sent.
+fn has_sent(v: Result<Accepted, Refusal>) -> bool
+    ensures { result ≡ has_sent v }
 {
     match v {
-        Verdict::Accepted(_, _, sent) => {
-            if sent {
-                *words = held_words(r);
-            }
+        Ok(a) => a.sent,
+        Err(_) => false,
+    }
+}
+
+// What is held is kept in the words, where it was sent.
+fn keep(words: &mut [u32; HELD_WORDS], v: Result<Accepted, Refusal>, held: Option<Record>)
+    ensures { words.new ≡ kept_after words.old v held }
+{
+    if has_sent(v) {
+        if let Some(r) = held {
+            *words = held_words(r);
         }
-        Verdict::Refused(_) => {}
     }
 }
 
@@ -103,32 +120,25 @@ pub extern "C" fn schilf_read(
 {
     let before = held_in(held);
     let reply = read(element, before, map);
-    let verdict = reply.verdict;
-    let kept = reply.held;
-    keep(held, verdict, kept.config);
-    *told = answer_words(verdict);
-    read_number(verdict)
+    keep(held, reply.verdict, reply.held);
+    *told = answer_words(reply.verdict);
+    number(reply.verdict)
 }
 
 fn stream_at(table: [[u8; 8]; 16], program: u32, layer: u32) -> u8
     ensures { result ≡ stream_at table program layer }
 {
-    let p = program as usize;
-    let l = layer as usize;
-    if 16 <= p {
-        return 255;
+    if program < 16 && layer < 8 {
+        return cell_at(table, program as usize, layer as usize);
     }
-    if 8 <= l {
-        return 255;
-    }
-    cell_at(table, p, l)
+    255
 }
 
-fn row_words(stream: u8, x: Rowed) -> [i64; 9]
+fn row_words(stream: u8, x: Option<Row>) -> [i64; 9]
     ensures { result ≡ row_words stream x }
 {
     match x {
-        Rowed::Is(r) => [
+        Some(r) => [
             stream as i64,
             r.program as i64,
             r.layer as i64,
@@ -139,18 +149,16 @@ fn row_words(stream: u8, x: Rowed) -> [i64; 9]
             r.ps as i64,
             r.channels as i64,
         ],
-        Rowed::Absent => [255, 0, 0, 0, 0, 0, 0, 0, 0],
+        None => [255, 0, 0, 0, 0, 0, 0, 0, 0],
     }
 }
 
 fn row_at(r: Record, program: u32, layer: u32) -> [i64; 9]
     ensures { result ≡ row_at r (table_of r.layers r.programs) program layer }
 {
-    let layers = r.layers;
-    let table = table_of(layers, r.programs);
+    let table = table_of(r.layers, r.programs);
     let stream = stream_at(table, program, layer);
-    let x = row_of(r, table, program, layer);
-    row_words(stream, x)
+    row_words(stream, row_of(r, table, program, layer))
 }
 
 // The row of a program's layer of a record's words, behind its stream's number.
@@ -187,13 +195,7 @@ pub extern "C" fn schilf_write(
         out.old written.old result out.new written.new }
 {
     let r = record_in(words);
-    match write(r, send, lengths, payload, other, out) {
-        Written::Done(n) => {
-            *written = n;
-            0
-        }
-        Written::Refused(x) => x.number,
-    }
+    told(write(r, send, lengths, payload, other, out), written)
 }
 
 // The frame of an element, laid into `out`; the bytes of it.
@@ -202,11 +204,5 @@ pub extern "C" fn schilf_frame(element: &[u8], out: &mut [u8], written: &mut usi
     ensures { FramePromise element.now out.old written.old result out.new
         written.new }
 {
-    match frame(element, out) {
-        Framed::Done(n) => {
-            *written = n;
-            0
-        }
-        Framed::Refused(x) => x.number,
-    }
+    told(frame(element, out), written)
 }

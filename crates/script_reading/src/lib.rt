@@ -1,64 +1,60 @@
 // Cases of a script that read: H, R, W and S. Each says whether the script goes on.
 #![tactic(auto)]
 
-use element::{Held, Verdict};
+use element::Accepted;
+use kernel::Refusal;
 use record_words::RECORD_WORDS;
 use records::Record;
-use row::Rowed;
-use script::{CUT, map, number, say, say_number, say_refused, say_row, say_word, take, take_words};
+use script::{map, number, say_refused, say_row, take, take_words};
 use std::io;
 use std::io::{Read, Write};
-use sync::Hunted;
 
-// What is then held, and whether the script goes on.
+// The record that a script holds, which W and P use whether or not it is present: an Option of it would lose those
+// that H lends as absent.
 #[derive(Clone, Copy)]
-pub struct Next {
-    pub held: Held,
-    pub more: bool,
+pub struct Lent {
+    pub present: bool,
+    pub record: Record,
 }
 
-// A case that leaves this held.
-pub fn after(held: Held, more: bool) -> Next {
-    Next {
-        held: held,
-        more: more,
-    }
-}
-
-// H: a record that is lent as held.
-pub fn hold<R: Read>(input: &mut R, held: Held, words: &mut [u32]) -> io::Result<Next> {
+// H: a record that is lent as held; None where the script ends.
+pub fn hold<R: Read>(input: &mut R, words: &mut [u32]) -> io::Result<Option<Lent>> {
     let present = number(input, 1)?;
-    let n = take_words(input, words, RECORD_WORDS)?;
-    if (1 < present) | (n != RECORD_WORDS) {
-        return Ok(after(held, false));
-    }
-    let r = record_words::record_in(words);
-    let new = Held {
-        present: present == 1,
-        config: r,
+    let taken = take_words(input, words, RECORD_WORDS)?;
+    let (Some(present), Some(_)) = (present, taken) else {
+        return Ok(None);
     };
-    Ok(after(new, true))
-}
-
-fn say_accepted<W: Write>(to: &mut W, items: u32, count: u32, sent: bool) -> io::Result<()> {
-    say(to, b"accepted, items")?;
-    say_word(to, items)?;
-    say(to, b", fields")?;
-    say_word(to, count)?;
-    if sent {
-        return say(to, b", configuration sent\n");
+    if present > 1 {
+        return Ok(None);
     }
-    say(to, b", configuration held\n")
+    Ok(Some(Lent {
+        present: present == 1,
+        record: record_words::record_in(words),
+    }))
 }
 
-fn say_verdict<W: Write>(to: &mut W, v: Verdict, map: &[u32]) -> io::Result<()> {
-    match v {
-        Verdict::Accepted(items, count, sent) => {
-            say_accepted(to, items, count, sent)?;
-            map::say_items(to, map, items)?;
-            map::say_kept(to, map, 4 * (items as usize))
+fn say_accepted<W: Write>(to: &mut W, x: Accepted) -> io::Result<()> {
+    let whose = if x.sent { "sent" } else { "held" };
+    writeln!(
+        to,
+        "accepted, items {}, fields {}, configuration {whose}",
+        x.items,
+        x.fields
+    )
+}
+
+fn say_verdict<W: Write>(
+    to: &mut W,
+    verdict: Result<Accepted, Refusal>,
+    map: &[u32],
+) -> io::Result<()> {
+    match verdict {
+        Ok(x) => {
+            say_accepted(to, x)?;
+            map::say_items(to, map, x.items)?;
+            map::say_kept(to, map, 4 * (x.items as usize))
         }
-        Verdict::Refused(x) => {
+        Err(x) => {
             say_refused(to, x)?;
             map::say_kept(to, map, 0)
         }
@@ -66,71 +62,57 @@ fn say_verdict<W: Write>(to: &mut W, v: Verdict, map: &[u32]) -> io::Result<()> 
 }
 
 // Reads an element into a map that is set to 7; what is then held.
-fn read_into<W: Write>(to: &mut W, el: &[u8], held: Held, map: &mut [u32]) -> io::Result<Held> {
+fn read_into<W: Write>(to: &mut W, el: &[u8], lent: Lent, map: &mut [u32]) -> io::Result<Lent> {
     map::set_all(map);
-    let reply = reader::read(el, held, map);
-    let v = reply.verdict;
-    say_verdict(to, v, map)?;
-    let new = reply.held;
-    Ok(new)
+    let reply = reader::read(el, lent.present.then_some(lent.record), map);
+    say_verdict(to, reply.verdict, map)?;
+    match reply.held {
+        Some(r) => Ok(Lent {
+            present: true,
+            record: r,
+        }),
+        None => Ok(lent),
+    }
 }
 
-// R: an element, with room for so many numbers in the map.
+// R: an element, with room for so many numbers in the map; None where the script ends.
 pub fn read<R: Read, W: Write>(
     input: &mut R,
     to: &mut W,
-    held: Held,
+    lent: Lent,
     bytes: &mut [u8],
     map: &mut [u32],
-) -> io::Result<Next> {
+) -> io::Result<Option<Lent>> {
     let room = number(input, 2)?;
     let n = take(input, bytes, 2)?;
-    if map.len() < room {
-        return Ok(after(held, false));
-    }
-    if bytes.len() < n {
-        return Ok(after(held, false));
-    }
-    let new = read_into(to, &bytes[..n], held, &mut map[..room])?;
-    Ok(after(new, true))
-}
-
-fn say_if_there<W: Write>(
-    to: &mut W,
-    r: Record,
-    table: [[u8; 8]; 16],
-    program: u32,
-    layer: u32,
-) -> io::Result<()> {
-    let found = row::row_of(r, table, program, layer);
-    let Rowed::Is(line) = found else {
-        return Ok(());
+    let (Some(room), Some(n)) = (room, n) else {
+        return Ok(None);
     };
-    say_row(to, line)
+    let room = room as usize;
+    if map.len() < room {
+        return Ok(None);
+    }
+    let next = read_into(to, &bytes[..n], lent, &mut map[..room])?;
+    Ok(Some(next))
 }
 
 // W: all rows of a record, program by program.
 pub fn rows<W: Write>(to: &mut W, r: Record) -> io::Result<bool> {
-    let layers = r.layers;
-    let table = records::table_of(layers, r.programs);
-    let mut i: u32 = 0;
-    while i < 128 {
-        say_if_there(to, r, table, i / 8, i % 8)?;
-        i += 1;
+    let table = records::table_of(r.layers, r.programs);
+    for program in 0..16 {
+        for layer in 0..8 {
+            if let Some(line) = row::row_of(r, table, program, layer) {
+                say_row(to, line)?;
+            }
+        }
     }
     Ok(true)
 }
 
 fn say_hunted<W: Write>(to: &mut W, capture: &[u8], start: usize) -> io::Result<()> {
-    let h = sync::hunt(capture, start);
-    match h {
-        Hunted::Found(place, size) => {
-            say(to, b"found")?;
-            say_number(to, place)?;
-            say_number(to, size)?;
-            say(to, b"\n")
-        }
-        Hunted::Refused(x) => say_refused(to, x),
+    match sync::hunt(capture, start) {
+        Ok(h) => writeln!(to, "found {} {}", h.place, h.size),
+        Err(x) => say_refused(to, x),
     }
 }
 
@@ -138,12 +120,9 @@ fn say_hunted<W: Write>(to: &mut W, capture: &[u8], start: usize) -> io::Result<
 pub fn hunt<R: Read, W: Write>(input: &mut R, to: &mut W, bytes: &mut [u8]) -> io::Result<bool> {
     let start = number(input, 4)?;
     let n = take(input, bytes, 3)?;
-    if start == CUT {
+    let (Some(start), Some(n)) = (start, n) else {
         return Ok(false);
-    }
-    if bytes.len() < n {
-        return Ok(false);
-    }
-    say_hunted(to, &bytes[..n], start)?;
+    };
+    say_hunted(to, &bytes[..n], start as usize)?;
     Ok(true)
 }

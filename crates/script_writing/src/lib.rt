@@ -5,8 +5,6 @@ use records::Record;
 use script::{number, output, take, take_words};
 use std::io;
 use std::io::{Read, Write};
-use sync::Framed;
-use writer::Written;
 
 // Writes an element into bytes that are set to 7.
 fn write_into<W: Write>(
@@ -19,10 +17,9 @@ fn write_into<W: Write>(
     out: &mut [u8],
 ) -> io::Result<()> {
     output::set_all(out);
-    let w = writer::write(r, send, lengths, payload, other, out);
-    match w {
-        Written::Done(n) => output::say_done(to, out, n),
-        Written::Refused(x) => output::say_stopped(to, out, x),
+    match writer::write(r, send, lengths, payload, other, out) {
+        Ok(n) => output::say_done(to, out, n),
+        Err(x) => output::say_stopped(to, out, x),
     }
 }
 
@@ -39,22 +36,17 @@ pub fn write<R: Read, W: Write>(
     let send = number(input, 1)?;
     let room = number(input, 2)?;
     let count = number(input, 2)?;
-    let k = take_words(input, words, count)?;
+    let k = match count {
+        Some(count) => take_words(input, words, count as usize)?,
+        None => None,
+    };
     let n = take(input, bytes, 3)?;
     let m = take(input, more, 3)?;
-    if 1 < send {
+    let (Some(send), Some(room), Some(k), Some(n), Some(m)) = (send, room, k, n, m) else {
         return Ok(false);
-    }
-    if out.len() < room {
-        return Ok(false);
-    }
-    if words.len() < k {
-        return Ok(false);
-    }
-    if bytes.len() < n {
-        return Ok(false);
-    }
-    if more.len() < m {
+    };
+    let room = room as usize;
+    if send > 1 || out.len() < room {
         return Ok(false);
     }
     write_into(
@@ -71,10 +63,9 @@ pub fn write<R: Read, W: Write>(
 
 fn frame_into<W: Write>(to: &mut W, el: &[u8], out: &mut [u8]) -> io::Result<()> {
     output::set_all(out);
-    let f = sync::frame(el, out);
-    match f {
-        Framed::Done(n) => output::say_done(to, out, n),
-        Framed::Refused(x) => output::say_stopped(to, out, x),
+    match sync::frame(el, out) {
+        Ok(n) => output::say_done(to, out, n),
+        Err(x) => output::say_stopped(to, out, x),
     }
 }
 
@@ -87,10 +78,11 @@ pub fn frame<R: Read, W: Write>(
 ) -> io::Result<bool> {
     let room = number(input, 2)?;
     let n = take(input, bytes, 3)?;
-    if out.len() < room {
+    let (Some(room), Some(n)) = (room, n) else {
         return Ok(false);
-    }
-    if bytes.len() < n {
+    };
+    let room = room as usize;
+    if out.len() < room {
         return Ok(false);
     }
     frame_into(to, &bytes[..n], &mut out[..room])?;

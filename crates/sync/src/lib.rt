@@ -26,7 +26,7 @@ fn marked(s: &[u8], p: usize) -> bool
     requires { p + 2 ≤ 1000000 }
     ensures { result ≡ marked s.now p }
 {
-    p + 2 <= s.len() && byte_at(s, p) == 0x56 && byte_at(s, p + 1) / 32 == 7
+    byte_at(s, p) == 0x56 && p + 2 <= s.len() && byte_at(s, p + 1) / 32 == 7
 }
 
 fn size_at(s: &[u8], p: usize) -> usize
@@ -41,9 +41,12 @@ fn frame_at(s: &[u8], p: usize) -> bool
     requires { p + 8196 ≤ 1000000 }
     ensures { result ≡ frame_at s.now p }
 {
+    if !marked(s, p) {
+        return false;
+    }
     let n = size_at(s, p);
     let end = p + 3 + n;
-    marked(s, p) && 1 <= n && end <= s.len() && (end == s.len() || marked(s, end))
+    1 <= n && end <= s.len() && (end == s.len() || marked(s, end))
 }
 
 // The first place at or after the start where a frame stands.

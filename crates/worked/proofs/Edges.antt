@@ -1,5 +1,6 @@
 -- The cases on both sides of each edge come out, by computation.
 use mathlib.Core.Path.{refl}
+use Rattle.kernel.specs.Answer.{told}
 use Rattle.kernel.specs.Bits.{bit_at, value_at}
 use Rattle.kernel.specs.Reading.{◌>>=◌, ◌>>◌, field, pass, here, choose, need, fit, on_fit, run}
 use Rattle.kernel.specs.Element.{with_item, over_fit, next, walk, follow}
@@ -20,7 +21,7 @@ use Rattle.worked.specs.Edges.{edges, Edges}
 use Rattle.worked.proofs.Worked.{◌&◌}
 
 pub edges_come_out : Edges
-unfolding AllComeOut edges answer numbers audio_mux_element after_flag use_same_stream_mux applied rest byte_alignment
+unfolding told AllComeOut edges answer numbers audio_mux_element after_flag use_same_stream_mux applied rest byte_alignment
     other_data subframes subframe payload_mux
     payload_length_info slot_of mux_slot_length_bytes slot_from stream_mux_config mux_ending mux_head mux_version_a programs num_layer
     layers layer sent_or_same frame_length configuration windowed

@@ -8,9 +8,9 @@ use Rattle.records.specs.declared.Form.TheVariants.{None}
 use Rattle.records.specs.declared.Stream.{Stream}
 use Rattle.records.specs.declared.Record.{Record}
 use Rattle.records.specs.Blank.{no_stream}
-use Rattle.element.specs.declared.Verdict.TheVariants.{Accepted}
-use Rattle.element.specs.Reply.{nothing_held}
-use Rattle.worked.specs.Worked.{Case, element, stopped, row, AllComeOut, at, minus_one, figures, version_one, holds}
+use Rattle.element.specs.Reply.{accepts}
+use Rattle.worked.specs.Worked.{Case, element, stopped, row, AllComeOut, at, minus_one, figures, version_one, nothing_held}
+use Rattle.worked.specs.Worked.{holds}
 
 -- a stream by its core type, frequency, channel configuration and frameLengthFlag, of slots by length bytes
 abbrev sized_by : ℕ → Freq → ℕ → ℕ → ℕ → Stream
@@ -92,7 +92,7 @@ narrow = version_one 0 (replicate 16 0) (sized_by 2 (Index 6) 1 0 255 ∷ replic
 -- the cases
 unfoldable pub edges : List Case
 edges =
-    element wide_bytes nothing_held (Accepted 37 184 true) (holds wide) wide_map
+    element wide_bytes nothing_held (accepts 37 184 true) (holds wide) wide_map
     ∷ row wide 0 0 (figures 0 0 1 96000 96000 minus_one minus_one 1)
     ∷ row wide 0 1 (figures 0 1 2 88200 88200 minus_one minus_one 2)
     ∷ row wide 0 2 (figures 0 2 3 64000 64000 minus_one minus_one 3)
@@ -111,15 +111,15 @@ edges =
     ∷ row wide 1 7 (figures 1 7 4 96000 96000 minus_one minus_one 2)
     -- three bits of other data in two groups where one is enough, and a checksum
     ∷ element (0x20 ∷ 0x00 ∷ 0x11 ∷ 0x90 ∷ 0x1F ∷ 0xF8 ∷ 0x00 ∷ 0x0E ∷ 0xB4 ∷ 0x03 ∷ 0x57 ∷ 0x40 ∷ []) nothing_held
-    (Accepted 6 22 true) (holds (single 0 0 1 3 1 0x5A))
+    (accepts 6 22 true) (holds (single 0 0 1 3 1 0x5A))
     (1 ∷ 0 ∷ 0 ∷ 1 ∷ 2 ∷ 0 ∷ 1 ∷ 70 ∷ 3 ∷ 0 ∷ 71 ∷ 8 ∷ 4 ∷ 0 ∷ 79 ∷ 8 ∷ 5 ∷ 0 ∷ 87 ∷ 3 ∷ 6 ∷ 0 ∷ 90 ∷ 6 ∷ [])
     -- version 1, its values in two bytes where one is enough
     ∷ element (0x48 ∷ 0x00 ∷ 0x3C ∷ 0x00 ∷ 0x08 ∷ 0x00 ∷ 0x80 ∷ 0x8C ∷ 0x80 ∷ 0xFF ∷ 0xA0 ∷ 0x00 ∷ 0xA0 ∷ 0x1A ∷ 0xB4
-    ∷ 0x80 ∷ []) nothing_held (Accepted 6 27 true) (holds (single 1 7 1 5 0 0))
+    ∷ 0x80 ∷ []) nothing_held (accepts 6 27 true) (holds (single 1 7 1 5 0 0))
     (1 ∷ 0 ∷ 0 ∷ 1 ∷ 2 ∷ 0 ∷ 1 ∷ 99 ∷ 3 ∷ 0 ∷ 100 ∷ 8 ∷ 4 ∷ 0 ∷ 108 ∷ 8 ∷ 5 ∷ 0 ∷ 116 ∷ 5 ∷ 6 ∷ 0 ∷ 121 ∷ 7 ∷ [])
     -- an extension type of 6 says nothing
     ∷ element (0x40 ∷ 0x04 ∷ 0x00 ∷ 0x01 ∷ 0x00 ∷ 0x98 ∷ 0x42 ∷ 0xB7 ∷ 0x30 ∷ 0xFF ∷ 0x00 ∷ 0x00 ∷ []) nothing_held
-    (Accepted 5 24 true) (holds narrow)
+    (accepts 5 24 true) (holds narrow)
     (1 ∷ 0 ∷ 0 ∷ 1 ∷ 2 ∷ 0 ∷ 1 ∷ 81 ∷ 3 ∷ 0 ∷ 82 ∷ 8 ∷ 4 ∷ 0 ∷ 90 ∷ 0 ∷ 6 ∷ 0 ∷ 90 ∷ 6 ∷ [])
     -- 1 and 2
     ∷ stopped (0x80 ∷ 0x00 ∷ []) 4367 (at 1 0 0)

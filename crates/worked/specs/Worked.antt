@@ -1,11 +1,13 @@
 -- The cases that document 01 marks P, in one table, and the claim that they come out as it says. proofs/Worked.antt has
 -- the theorem.
-use Rattle.std.specs.Prelude.{◌≡◌, true, false, List, [], ◌∷◌, ◌++◌, ℕ, ◌-◌, ℤ, pos, negsuc, length, drop, replicate}
+use Rattle.std.specs.Prelude.{◌≡◌, Bool, true, false, cond, Some, None, Result, Ok, Err, List, [], ◌∷◌, ◌++◌, ℕ, ◌-◌, ℤ, pos, negsuc, length, drop, replicate}
 use Rattle.kernel.specs.declared.Window.TheVariants.{UpTo}
+use Rattle.kernel.specs.declared.Cursor.{Cursor}
+use Rattle.kernel.specs.declared.Read.{Read}
 use Rattle.kernel.specs.declared.Refusal.{Refusal}
 use Rattle.kernel.specs.Bits.{value_at}
-use Rattle.kernel.specs.Reading.{run, refused_at}
-use Rattle.kernel.specs.Answer.{value, refusal, told}
+use Rattle.kernel.specs.Reading.{refused_at}
+use Rattle.kernel.specs.Answer.{told}
 use Rattle.records.specs.declared.Freq.{Freq}
 use Rattle.records.specs.declared.Freq.TheVariants.{Index, Hz}
 use Rattle.records.specs.declared.Form.{Form}
@@ -16,15 +18,13 @@ use Rattle.records.specs.declared.Record.{Record}
 use Rattle.records.specs.Blank.{no_stream}
 use Rattle.records.specs.Table.{table_of}
 use Rattle.row.specs.declared.Row.{Row}
-use Rattle.row.specs.declared.Rowed.TheVariants.{Is}
 use Rattle.row.specs.Row.{sbr_of, ps_of, row_in}
 use Rattle.numbers.specs.Values.{latm_get_value}
 use Rattle.asc.specs.Asc.{audio_specific_config}
 use Rattle.config.specs.Mux.{windowed}
-use Rattle.element.specs.declared.Held.{Held}
-use Rattle.element.specs.declared.Verdict.{Verdict}
-use Rattle.element.specs.declared.Verdict.TheVariants.{Accepted, Refused}
-use Rattle.element.specs.Reply.{nothing_held, answer, verdict_of, reply_of, map_after}
+use Rattle.element.specs.declared.Accepted.{Accepted}
+use Rattle.element.specs.Held.{Held}
+use Rattle.element.specs.Reply.{answer, accepts, verdict_of, reply_of, map_after}
 
 -- element s held v then map: the element s with `held` held has the verdict v and the map `map`, in which other numbers
 -- stay, and `then` is held after it.
@@ -36,13 +36,33 @@ use Rattle.element.specs.Reply.{nothing_held, answer, verdict_of, reply_of, map_
 -- its bits of fill, its end, the fields.
 -- refused len s r: s begins with ascLen len, and then the refusal r is met.
 pub data Case : Type 0 where
-  element : List ℕ → Held → Verdict → Held → List ℕ → Case
+  element : List ℕ → Held → Result Accepted Refusal → Held → List ℕ → Case
   stopped : List ℕ → ℕ → Refusal → Case
   bits : List ℕ → ℕ → ℕ → ℕ → Case
   row : Record → ℕ → ℕ → Row → Case
   variable : List ℕ → ℕ → ℕ → ℕ → Case
   asc_len : ℕ → List ℕ → Form → ℤ → ℤ → ℕ → ℕ → ℕ → Case
   refused : ℕ → List ℕ → Refusal → Case
+
+-- a bit, and the fields read before it
+abbrev from : ℕ → ℕ → Cursor
+from at n = record { at = at; fields = n }
+
+-- a value, and where the reading of it ends
+abbrev read : {A : Type 0} → A → ℕ → ℕ → Result (Read A) Refusal
+read v at n = Ok (record { value = v; next = from at n })
+
+-- nothing is held
+abbrev pub nothing_held : Held
+nothing_held = None
+
+-- a record that is held,
+abbrev pub holds : Record → Held
+holds r = Some r
+
+-- and one that is held only where a flag says so
+abbrev held_if : Bool → Record → Held
+held_if present r = cond present (holds r) nothing_held
 
 -- a map of 4,368 numbers, as it was lent
 abbrev lent : List ℕ
@@ -62,16 +82,16 @@ abbrev pub ComesOut : Case → Type 0
 ComesOut (element s held v then map) =
     (reply_of s held (length lent) ≡ record { verdict = v; held = then })
     × (map_after lent (answer s held (length lent)) ≡ map ++ drop (length map) lent)
-ComesOut (stopped s room r) = verdict_of (answer s nothing_held room) ≡ Refused r
+ComesOut (stopped s room r) = verdict_of (answer s nothing_held room) ≡ Err r
 ComesOut (bits s p w v) = value_at s p w ≡ v
-ComesOut (row r p l x) = row_in r (table_of r.layers r.programs) p l ≡ Is x
-ComesOut (variable s v at n) = told (run s latm_get_value 0 0) ≡ value v at n
+ComesOut (row r p l x) = row_in r (table_of r.layers r.programs) p l ≡ Some x
+ComesOut (variable s v at n) = told s latm_get_value (from 0 0) ≡ read v at n
 ComesOut (asc_len len s form sbr ps fill at n) =
-    (told (run s latm_get_value 0 0) ≡ value len 10 2)
-    × (told (run s (audio_specific_config (UpTo at)) 10 2) ≡ value (mono_of form) (at - fill) n)
-    × (told (run s windowed 0 0) ≡ value (mono_of form) at n)
+    (told s latm_get_value (from 0 0) ≡ read len 10 2)
+    × (told s (audio_specific_config (UpTo at)) (from 10 2) ≡ read (mono_of form) (at - fill) n)
+    × (told s windowed (from 0 0) ≡ read (mono_of form) at n)
     × (sbr_of form ≡ sbr) × (ps_of form ≡ ps)
-ComesOut (refused len s r) = (told (run s latm_get_value 0 0) ≡ value len 10 2) × (told (run s windowed 0 0) ≡ refusal r)
+ComesOut (refused len s r) = (told s latm_get_value (from 0 0) ≡ read len 10 2) × (told s windowed (from 0 0) ≡ Err r)
 
 -- and all of several cases
 unfoldable pub AllComeOut : List Case → Type 0
@@ -174,37 +194,33 @@ figures p l core rate output sbr ps channels = record {
   channels = channels;
 }
 
--- a record that is held
-abbrev pub holds : Record → Held
-holds r = record { present = true; config = r }
-
 abbrev first_held : Held
 first_held = holds first
 
 abbrev first_not_held : Held
-first_not_held = record { present = false; config = first }
+first_not_held = held_if false first
 
 -- the cases of document 01, and a stream of each form
 unfoldable pub table : List Case
 table =
     -- the first element of the listing: items U, C, L, P, A, 17 fields read
-    element first_bytes nothing_held (Accepted 5 17 true) first_held
+    element first_bytes nothing_held (accepts 5 17 true) first_held
     (1 ∷ 0 ∷ 0 ∷ 1 ∷ 2 ∷ 0 ∷ 1 ∷ 44 ∷ 3 ∷ 0 ∷ 45 ∷ 8 ∷ 4 ∷ 0 ∷ 53 ∷ 16 ∷ 6 ∷ 0 ∷ 69 ∷ 3 ∷ [])
     -- its payload is AB CD
     ∷ bits first_bytes 53 16 0xABCD
     -- its stream has type 2, 48000 Hz, 2 channels
     ∷ row first 0 0 (figures 0 0 2 48000 48000 minus_one minus_one 2)
     -- the second: items U, L, P, A, 2 fields read
-    ∷ element (0x80 ∷ 0x00 ∷ []) first_held (Accepted 4 2 false) first_held (1 ∷ 0 ∷ 0 ∷ 1 ∷ 3 ∷ 0 ∷ 1 ∷ 8 ∷ 4 ∷ 0 ∷ 9
+    ∷ element (0x80 ∷ 0x00 ∷ []) first_held (accepts 4 2 false) first_held (1 ∷ 0 ∷ 0 ∷ 1 ∷ 3 ∷ 0 ∷ 1 ∷ 8 ∷ 4 ∷ 0 ∷ 9
     ∷ 0 ∷ 6 ∷ 0 ∷ 9 ∷ 7 ∷ [])
     -- with nothing held
-    ∷ element (0x80 ∷ 0x00 ∷ []) nothing_held (Refused (at 4 0 1)) nothing_held []
+    ∷ element (0x80 ∷ 0x00 ∷ []) nothing_held (Err (at 4 0 1)) nothing_held []
     -- nor is what stands there held, if it is not present
-    ∷ element (0x80 ∷ 0x00 ∷ []) first_not_held (Refused (at 4 0 1)) first_not_held []
+    ∷ element (0x80 ∷ 0x00 ∷ []) first_not_held (Err (at 4 0 1)) first_not_held []
     -- the length runs out
-    ∷ element (0x80 ∷ []) first_held (Refused (at 3 1 1)) first_held []
+    ∷ element (0x80 ∷ []) first_held (Err (at 3 1 1)) first_held []
     -- a byte is left
-    ∷ element (0x80 ∷ 0x00 ∷ 0x00 ∷ []) first_held (Refused (at 15 16 2)) first_held []
+    ∷ element (0x80 ∷ 0x00 ∷ 0x00 ∷ []) first_held (Err (at 15 16 2)) first_held []
     -- bits 01, then bytes 01 00
     ∷ variable (0x40 ∷ 0x40 ∷ 0x00 ∷ []) 256 18 3
     -- type 2, index 6, channel 1, then 0x2B7, type 5, flag 1, index 3: 37 bits
@@ -224,37 +240,37 @@ table =
     -- 37
     ∷ element (0x40 ∷ 0x04 ∷ 0x00 ∷ 0x01 ∷ 0x28 ∷ 0x98 ∷ 0x42 ∷ 0xB7 ∷ 0x2C ∷ 0xC7 ∷ 0xF8 ∷ 0x03 ∷ 0x56
     ∷ []) nothing_held
-    (Accepted 5 26 true) (holds (mono (Flag1 (Index 3))))
+    (accepts 5 26 true) (holds (mono (Flag1 (Index 3))))
     (1 ∷ 0 ∷ 0 ∷ 1 ∷ 2 ∷ 0 ∷ 1 ∷ 86 ∷ 3 ∷ 0 ∷ 87 ∷ 8 ∷ 4 ∷ 0 ∷ 95 ∷ 8 ∷ 6 ∷ 0 ∷ 103 ∷ 1 ∷ [])
     ∷ row (mono (Flag1 (Index 3))) 0 0 (figures 0 0 2 24000 48000 (pos 1) minus_one 1)
     -- 36
     ∷ element (0x40 ∷ 0x04 ∷ 0x00 ∷ 0x01 ∷ 0x20 ∷ 0x98 ∷ 0x42 ∷ 0xB7 ∷ 0x2C ∷ 0xC7 ∷ 0xF8 ∷ 0x03 ∷ 0x56
     ∷ []) nothing_held
-    (Refused (at 10 70 20)) nothing_held []
+    (Err (at 10 70 20)) nothing_held []
     -- 31
     ∷ element (0x40 ∷ 0x04 ∷ 0x00 ∷ 0x00 ∷ 0xF8 ∷ 0x98 ∷ 0x42 ∷ 0xB7 ∷ 0x21 ∷ 0xFE ∷ 0x00 ∷ 0xD5 ∷ 0x80
     ∷ []) nothing_held
-    (Accepted 5 22 true) (holds (mono None)) (1 ∷ 0 ∷ 0 ∷ 1 ∷ 2 ∷ 0 ∷ 1 ∷ 80 ∷ 3 ∷ 0 ∷ 81 ∷ 8 ∷ 4 ∷ 0 ∷ 89 ∷ 8 ∷ 6 ∷ 0
+    (accepts 5 22 true) (holds (mono None)) (1 ∷ 0 ∷ 0 ∷ 1 ∷ 2 ∷ 0 ∷ 1 ∷ 80 ∷ 3 ∷ 0 ∷ 81 ∷ 8 ∷ 4 ∷ 0 ∷ 89 ∷ 8 ∷ 6 ∷ 0
     ∷ 97 ∷ 7 ∷ [])
     ∷ row (mono None) 0 0 (figures 0 0 2 24000 24000 minus_one minus_one 1)
     -- 32
     ∷ element (0x40 ∷ 0x04 ∷ 0x00 ∷ 0x01 ∷ 0x00 ∷ 0x98 ∷ 0x42 ∷ 0xB7 ∷ 0x2C ∷ 0xC7 ∷ 0xF8 ∷ 0x03 ∷ 0x56
     ∷ []) nothing_held
-    (Refused (at 10 69 19)) nothing_held []
+    (Err (at 10 69 19)) nothing_held []
     -- 49
     ∷ element (0x40 ∷ 0x04 ∷ 0x00 ∷ 0x01 ∷ 0x88 ∷ 0x98 ∷ 0x42 ∷ 0xB7 ∷ 0x2C ∷ 0xEA ∷ 0x44 ∷ 0x7F ∷ 0x80 ∷ 0x35 ∷ 0x60
     ∷ []) nothing_held
-    (Accepted 5 28 true) (holds (mono (FlagPs (Index 3) 1)))
+    (accepts 5 28 true) (holds (mono (FlagPs (Index 3) 1)))
     (1 ∷ 0 ∷ 0 ∷ 1 ∷ 2 ∷ 0 ∷ 1 ∷ 98 ∷ 3 ∷ 0 ∷ 99 ∷ 8 ∷ 4 ∷ 0 ∷ 107 ∷ 8 ∷ 6 ∷ 0 ∷ 115 ∷ 5 ∷ [])
     ∷ row (mono (FlagPs (Index 3) 1)) 0 0 (figures 0 0 2 24000 48000 (pos 1) (pos 1) 2)
     -- 48
     ∷ element (0x40 ∷ 0x04 ∷ 0x00 ∷ 0x01 ∷ 0x80 ∷ 0x98 ∷ 0x42 ∷ 0xB7 ∷ 0x2C ∷ 0xEA ∷ 0x40 ∷ 0xFF ∷ 0x00 ∷ 0x6A ∷ 0xC0
     ∷ []) nothing_held
-    (Accepted 5 26 true) (holds (mono (Flag1 (Index 3))))
+    (accepts 5 26 true) (holds (mono (Flag1 (Index 3))))
     (1 ∷ 0 ∷ 0 ∷ 1 ∷ 2 ∷ 0 ∷ 1 ∷ 97 ∷ 3 ∷ 0 ∷ 98 ∷ 8 ∷ 4 ∷ 0 ∷ 106 ∷ 8 ∷ 6 ∷ 0 ∷ 114 ∷ 6 ∷ [])
     -- a stream of each form, all without payload, and their rows: PS over one channel gives two where type 29 or a flag
     -- of 1 says so, and type 5, a flag of 0 and no flag leave it one
-    ∷ element forms_bytes nothing_held (Accepted 11 120 true) (holds forms) (
+    ∷ element forms_bytes nothing_held (accepts 11 120 true) (holds forms) (
     1 ∷ 0 ∷ 0 ∷ 1 ∷ 2 ∷ 0 ∷ 1 ∷ 466 ∷ 3 ∷ 0 ∷ 467 ∷ 56 ∷ 4 ∷ 0 ∷ 523 ∷ 0 ∷ 4 ∷ 1 ∷ 523 ∷ 0 ∷ 4 ∷ 2 ∷ 523 ∷ 0
     ∷ 4 ∷ 3 ∷ 523 ∷ 0 ∷ 4 ∷ 4 ∷ 523 ∷ 0 ∷ 4 ∷ 5 ∷ 523 ∷ 0 ∷ 4 ∷ 6 ∷ 523 ∷ 0 ∷ 6 ∷ 0 ∷ 523 ∷ 5 ∷ []
     )

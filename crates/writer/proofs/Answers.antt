@@ -1,18 +1,18 @@
 -- What `write` answers, by its tests.
 use mathlib.Core.Path.{◌≡◌, refl, sym, ◌∙◌, ap}
-use mathlib.Core.Bool.{Bool, true, false, cond, ◌&&◌}
+use mathlib.Core.Bool.{Bool, true, false, cond}
 use mathlib.Core.Logic.{◌⊎◌, inl, inr}
 use mathlib.Core.List.{List, [], ◌∷◌, ◌++◌, append-nil, append_assoc}
 use Prim.Native.Nat.{ℕ, zero, suc, ◌+◌, ◌-◌, ◌*◌, ◌/◌, ◌%◌, ◌≤◌, ◌<◌}
 use native.Mathlib.Nat.{zero-add, zero-mul, suc-mul, mul-le-mul_left}
 use native.Mathlib.Omega.{arith}
-use borrow.Author.Tests.{eq-eqb, ne_eqb, eqb-true, lt-ltb, le-ltb}
+use borrow.Author.Tests.{eq-eqb, lt-ltb, le-ltb}
 use lib.Dec.{eqb}
 use lib.ListN.{length, get_or, drop, length-append}
 use lib.Seq.{get_or-drop, length-take-le}
 use Rattle.kernel.specs.Answer.{unread}
 use Rattle.kernel.specs.Bits.{bits_of}
-use Rattle.kernel.proofs.Tests.{both, or_right}
+use Rattle.kernel.proofs.Tests.{or_right}
 use Rattle.records.specs.declared.Stream.{Stream}
 use Rattle.records.specs.declared.Record.{Record}
 use Rattle.records.specs.Blank.{no_stream}
@@ -20,52 +20,34 @@ use Rattle.records.specs.Table.{streams_in}
 use Rattle.records.specs.Valid.{valid_of}
 use Rattle.records.proofs.Apart.{record_ok}
 use Rattle.element.specs.Mux.{streams_of}
-use Rattle.writer.specs.declared.Measure.{Measure}
-use Rattle.writer.specs.declared.Written.TheVariants.{Done, Refused}
+use Rattle.std.specs.Prelude.{Ok, Err}
 use Rattle.writer.specs.Written.{Piece, bits_in, sum_of, subframe_pieces, config_pieces, Sent, content_pieces}
 use Rattle.writer.specs.Written.{other_pieces, alignment, element_bits, size_of}
 use Rattle.writer.specs.Write.{slot_fits, row_fits, slots_fit, other_bytes, fits, written_of}
-use Rattle.writer.specs.Sizes.{length_bytes, measure_all, front_bits}
+use Rattle.writer.specs.Sizes.{length_bytes, front_bits}
 use Rattle.writer.specs.Claims.{RightSizes}
 use Rattle.writer.proofs.Pieces.{bits_append}
 use Rattle.writer.proofs.Whole.{fits_are, content_length, bits_length}
 
 module _ (w : Sent) (room : ℕ) where
-  pub written_16 : valid_of w.config ≡ false → Refused (unread 16) ≡ written_of w room
+  pub written_16 : valid_of w.config ≡ false → Err (unread 16) ≡ written_of w room
   written_16 e = rw e
 
-  pub written_17 : valid_of w.config ≡ true → fits w ≡ false → Refused (unread 17) ≡ written_of w room
+  pub written_17 : valid_of w.config ≡ true → fits w ≡ false → Err (unread 17) ≡ written_of w room
   written_17 e f = rw (e, f)
 
-  pub written_18 : valid_of w.config ≡ true → fits w ≡ true → 8191 < size_of w → Refused (unread 18) ≡ written_of w room
+  pub written_18 : valid_of w.config ≡ true → fits w ≡ true → 8191 < size_of w → Err (unread 18) ≡ written_of w room
   written_18 e f h = rw (e, f, lt-ltb 8191 (size_of w) h)
 
   pub written_19 : valid_of w.config ≡ true → fits w ≡ true → size_of w ≤ 8191 → room < size_of w
-      → Refused (unread 19) ≡ written_of w room
+      → Err (unread 19) ≡ written_of w room
   written_19 e f h k = rw (e, f, le-ltb 8191 (size_of w) h, lt-ltb room (size_of w) k)
 
   pub written_done : valid_of w.config ≡ true → fits w ≡ true → size_of w ≤ 8191 → size_of w ≤ room
-      → Done (size_of w) ≡ written_of w room
+      → Ok (size_of w) ≡ written_of w room
   written_done e f h k = rw (e, f, le-ltb 8191 (size_of w) h, le-ltb room (size_of w) k)
 
--- ---- what 17 refuses
-
-module _ (w : Sent) (count : ℕ) (some : count ≡ length (streams_of w.config)) where
-  pub number_no : (length w.lengths ≡ (w.config.subframes + 1) * count → ⊥) → fits w ≡ false
-  number_no n =
-      let m : length w.lengths ≡ (w.config.subframes + 1) * length (streams_of w.config)
-      → ⊥ = λ e. n (rw some e) in
-      rw (ne_eqb (length w.lengths) ((w.config.subframes + 1) * length (streams_of w.config)) m)
-
-  pub number_yes : length w.lengths ≡ (w.config.subframes + 1) * count
-      → fits w ≡ (slots_fit (w.config.subframes + 1) (streams_of w.config) w.lengths
-      && (eqb (length w.payload) (sum_of ((w.config.subframes + 1) * length (streams_of w.config)) w.lengths)
-      && eqb (length w.other) (other_bytes w.config)))
-  number_yes n =
-      let e : length w.lengths ≡ (w.config.subframes + 1) * length (streams_of w.config) = rw (sym some) n in
-      rw (eq-eqb (length w.lengths) _ e, e)
-
--- ---- what it does not
+-- ---- what 17 does not refuse
 
 slot_fits_law : (s : Stream) (n : ℕ) → (s.kind ≡ 0) ⊎ (n ≡ s.fixed + 20) → slot_fits s n ≡ true
 slot_fits_law s n (inl e) = rw (eq-eqb s.kind 0 e)
@@ -181,12 +163,3 @@ module _ (w : Sent) where
 
 pub few_slots : (n k : ℕ) → n ≤ 64 → k ≤ 16 → n * k ≤ 1024
 few_slots n k h l = let e : n * k ≤ n * 16 = mul-le-mul_left n l in omega (arith, e)
-
-pub fits_by : (w : Sent) (count : ℕ) (m : Measure) (o : ℕ) → count ≡ length (streams_of w.config)
-    → length w.lengths ≡ (w.config.subframes + 1) * count
-    → m ≡ measure_all (w.config.subframes + 1) (streams_of w.config) w.lengths → o ≡ other_bytes w.config
-    → (m.fits && (eqb (length w.payload) m.payload && eqb (length w.other) o)) ≡ fits w
-fits_by w count m o s n e q = rw (e, q) (sym (number_yes w count s n))
-
-pub payload_is : (f : Bool) (x y : ℕ) (b : Bool) → (f && (eqb x y && b)) ≡ true → x ≡ y
-payload_is f x y b h = eqb-true x y (both (eqb x y) b (both f (eqb x y && b) h).1).0

@@ -6,9 +6,9 @@ use mathlib.Core.Logic.{◌⊎◌}
 use Prim.Native.Nat.{ℕ, ◌*◌}
 use lib.ListN.{length, drop}
 use Rattle.records.specs.declared.Record.{Record}
-use Rattle.element.specs.declared.Held.{Held}
-use Rattle.element.specs.declared.Verdict.TheVariants.{Accepted}
-use Rattle.element.specs.Reply.{answer, reply_with, map_after, table_after}
+use Rattle.std.specs.Prelude.{Some}
+use Rattle.element.specs.Held.{Held}
+use Rattle.element.specs.Reply.{answer, reply_with, map_after, table_after, accepts}
 use Rattle.element.specs.Left.{shown}
 use Rattle.element.specs.Claims.{EachByKind}
 use Rattle.element.proofs.Theorems.{content_by_kind}
@@ -18,8 +18,8 @@ use Rattle.writer.specs.Claims.{ReadsBack, Shows, ComesBack}
 use Rattle.writer.proofs.Whole.{not_sent}
 
 -- the record is held, since it was sent or since it was held before
-then_held : (b : Bool) (r : Record) (held : Held) → (b ≡ true) ⊎ (held ≡ record { present = true; config = r })
-    → cond b (record { present = true; config = r }) held ≡ record { present = true; config = r }
+then_held : (b : Bool) (r : Record) (held : Held) → (b ≡ true) ⊎ (held ≡ Some r)
+    → cond b (Some r) held ≡ Some r
 then_held true r held h = refl
 then_held false r held h = not_sent h
 
@@ -30,7 +30,7 @@ shows_back w s held map b =
     rw (b.accepts, shown_numbers b.items (drop (4 * length b.items) map) k) b.shows
 
 pub comes_back : (w : Sent) (s : List ℕ) (held : Held) (map : List ℕ) (table : List (List ℕ))
-    → (w.send ≡ true) ⊎ (held ≡ record { present = true; config = w.config })
+    → (w.send ≡ true) ⊎ (held ≡ Some w.config)
     → ReadsBack w s held (length map) → ComesBack w s held map table
 comes_back w s held map table h b =
     let k = then_held w.send w.config held h in
@@ -39,7 +39,7 @@ comes_back w s held map table h b =
       fields = b.count;
       replies =
           ap (reply_with held) b.accepts
-          ∙ (λ i. record { verdict = Accepted (length b.items) b.count w.send; held = k i });
+          ∙ (λ i. record { verdict = accepts (length b.items) b.count w.send; held = k i });
       shows = shows_back w s held map b;
       tables = ap (table_after table) b.accepts;
     }

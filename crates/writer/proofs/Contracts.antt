@@ -2,16 +2,16 @@
 use mathlib.Core.Path.{sym, ◌∙◌}
 use Rattle.kernel.specs.Promises.{AllowsOne, AllowsOneOutcome}
 use Rattle.writer.proofs.Theorems.{written_once}
-use Rattle.writer.proofs.measures.measure_row.Reads as measure_row
-use Rattle.writer.proofs.measures.measure_all.Reads as measure_all
+use Rattle.writer.proofs.measures.length_bytes.Reads as length_bytes
+use Rattle.writer.proofs.measures.sum_of.Reads as sum_of
 use Rattle.writer.proofs.measures.other_bytes.Reads as other_bytes
 use Rattle.writer.proofs.write.Reads as write
 
-pub measure_row_allows_one : AllowsOne measure_row.Learnt (λ k r e. r)
-measure_row_allows_one k a x y e f p q = p.0 ∙ sym q.0
+pub length_bytes_allows_one : AllowsOne length_bytes.Learnt (λ k r e. r)
+length_bytes_allows_one k a x y e f p q = p.0 ∙ sym q.0
 
-pub measure_all_allows_one : AllowsOne measure_all.Learnt (λ k r e. r)
-measure_all_allows_one k a x y e f p q = p.0 ∙ sym q.0
+pub sum_of_allows_one : AllowsOne sum_of.Learnt (λ k r e. r)
+sum_of_allows_one k a x y e f p q = p.0 ∙ sym q.0
 
 pub other_bytes_allows_one : AllowsOne other_bytes.Learnt (λ k r e. r)
 other_bytes_allows_one k a x y e f p q = p ∙ sym q

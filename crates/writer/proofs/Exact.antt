@@ -16,8 +16,8 @@ use Rattle.records.specs.declared.Stream.{Stream}
 use Rattle.records.specs.Blank.{no_stream}
 use Rattle.records.specs.Valid.{valid_of}
 use Rattle.element.specs.Mux.{streams_of}
-use Rattle.writer.specs.declared.Written.{Written}
-use Rattle.writer.specs.declared.Written.TheVariants.{Done, Refused}
+use Rattle.std.specs.Prelude.{Result, Ok, Err}
+use Rattle.kernel.specs.declared.Refusal.{Refusal}
 use Rattle.writer.specs.Written.{Sent, size_of}
 use Rattle.writer.specs.Write.{slot_fits, row_fits, slots_fit, fits, written_of}
 use Rattle.writer.specs.Claims.{RightSizes, RefusedExactly}
@@ -82,9 +82,9 @@ wrong_fits w n = go (fits w) refl
 
 module _ (w : Sent) (room : ℕ) where
   -- what an answer says
-  abbrev Says : Written → Type 0
-  Says (Done n) = Unit {0}
-  Says (Refused x) =
+  abbrev Says : Result ℕ Refusal → Type 0
+  Says (Ok n) = Unit {0}
+  Says (Err x) =
       (x.number ≡ 16 → valid_of w.config ≡ false)
       × (x.number ≡ 17 → (valid_of w.config ≡ true) × (¬ RightSizes w))
       × (x.number ≡ 18 → (valid_of w.config ≡ true) × RightSizes w × (8191 < size_of w))

@@ -6,6 +6,7 @@ pub mod Lengths
 pub mod Whole
 pub mod Rows
 pub mod Subframes
+pub mod Element
 pub mod Parts
 pub mod Answers
 pub mod Exact

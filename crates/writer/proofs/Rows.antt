@@ -1,123 +1,112 @@
 -- Laws of a row of slots: a turn of the loops that measure and put it.
-use mathlib.Core.Path.{◌≡◌, sym, ◌∙◌, subst}
-use mathlib.Core.Bool.{Bool, ◌&&◌}
+use mathlib.Core.Path.{◌≡◌, refl, ◌∙◌}
+use mathlib.Core.Bool.{Bool, true, false, cond, ◌&&◌}
 use mathlib.Core.List.{List, [], ◌∷◌, ◌++◌, append_assoc}
-use Prim.Native.Nat.{ℕ, suc, ◌+◌, ◌-◌, ◌/◌, ◌%◌, ◌≤◌, ◌<◌}
-use native.Mathlib.Nat.{add-zero}
+use Prim.Native.Nat.{ℕ, zero, suc, ◌+◌, ◌-◌, ◌/◌, ◌%◌, ◌≤◌, ◌<◌}
+use native.Mathlib.Nat.{add-zero, zero-add, add_assoc}
 use native.Mathlib.Numerals.{add-one}
 use native.Mathlib.Omega.{arith}
-use lib.ListN.{length, get_or, take, drop}
-use lib.Seq.{drop-cons, drop-drop, drop-length, get_or-drop, get_or-take, length-take-le}
+use lib.ListN.{length, get_or, drop, drop_of_length-le}
+use lib.Seq.{drop-cons, drop-drop, get_or-drop}
+use Rattle.std.specs.Prelude.{Option, Some, None}
 use Rattle.kernel.specs.Bits.{bits_of}
-use Rattle.kernel.proofs.Tests.{and_true}
+use Rattle.std.proofs.lemmas.Bool.Decides.{nat_tests}
+use Rattle.kernel.proofs.Puts.{puts}
 use Rattle.records.specs.declared.Stream.{Stream}
 use Rattle.records.specs.Blank.{no_stream}
 use Rattle.writer.specs.Written.{ones_bits, length_bits, slot_bits, lengths_bits, sum_of}
 use Rattle.writer.specs.Write.{slot_fits, row_fits}
-use Rattle.writer.specs.declared.Measure.{Measure}
-use Rattle.writer.specs.Sizes.{bytes_of_length, row_bytes, measure_of}
+use Rattle.writer.specs.Sizes.{bytes_of_length, row_bytes, row_if_fit}
 
--- a length of 255 bytes or more, and one of less
-pub length_turn : (n : ℕ) → 255 ≤ n → length_bits n ≡ bits_of 8 255 ++ length_bits (n - 255)
-unfolding length_bits ones_bits
-length_turn n h =
-    let q : n / 255 ≡ suc ((n - 255) / 255) = omega arith in
-    let r : n % 255 ≡ (n - 255) % 255 = omega arith in
-    rw (q, r) (append_assoc (bits_of 8 255) (ones_bits ((n - 255) / 255)) (bits_of 8 ((n - 255) % 255)))
+-- ---- the bytes of one length, k of them put
 
-pub length_last : (n : ℕ) → n < 255 → length_bits n ≡ bits_of 8 n
-unfolding length_bits ones_bits
-length_last n h =
-    let q : n / 255 ≡ 0 = omega arith in
-    let r : n % 255 ≡ n = omega arith in
-    rw (q, r)
+unfoldable pub length_left : ℕ → ℕ → List Bool
+length_left n k = ones_bits (n / 255 - k) ++ bits_of 8 (n % 255)
 
--- the slot at place `at`, of stream i
-module _ (ss : List Stream) (ns : List ℕ) (i at : ℕ) (h : i < length ss) where
-  stream_is : drop i ss ≡ get_or ss i no_stream ∷ drop (i + 1) ss
-  stream_is = rw (add-one i) (drop-cons ss i no_stream h)
+pub length_start : (n : ℕ) → length_left n 0 ≡ length_bits n
+unfolding length_left length_bits
+length_start n = let e : n / 255 - 0 ≡ n / 255 = omega arith in rw e
 
-  slot_is : get_or (drop at ns) 0 0 ≡ get_or ns at 0
-  slot_is = get_or-drop at ns 0 0 ∙ rw add-zero
+pub length_turn : (n k : ℕ) → k < n / 255 → length_left n k ≡ bits_of 8 255 ++ length_left n (k + 1)
+unfolding length_left ones_bits
+length_turn n k h =
+    let e : n / 255 - k ≡ suc (n / 255 - (k + 1)) = omega arith in
+    rw e (append_assoc (bits_of 8 255) (ones_bits (n / 255 - (k + 1))) (bits_of 8 (n % 255)))
 
-  next_is : drop 1 (drop at ns) ≡ drop (at + 1) ns
-  next_is = drop-drop 1 at ns
+pub length_end : (n k : ℕ) → n / 255 ≤ k → length_left n k ≡ bits_of 8 (n % 255)
+unfolding length_left ones_bits
+length_end n k h = let e : n / 255 - k ≡ 0 = omega arith in rw e
 
-  pub fits_turn : row_fits (drop i ss) (drop at ns)
-      ≡ (slot_fits (get_or ss i no_stream) (get_or ns at 0) && row_fits (drop (i + 1) ss) (drop (at + 1) ns))
-  unfolding row_fits
-  fits_turn = rw (stream_is, slot_is, next_is)
+pub ruleset byte_by_byte = (puts, length_start, length_turn, length_end)
 
-  pub bytes_turn : row_bytes (drop i ss) (drop at ns)
-      ≡ bytes_of_length (get_or ss i no_stream) (get_or ns at 0) + row_bytes (drop (i + 1) ss) (drop (at + 1) ns)
-  unfolding row_bytes
-  bytes_turn = rw (stream_is, slot_is, next_is)
+-- ---- a row, i of its slots passed
 
-  pub bits_turn : lengths_bits (drop i ss) (drop at ns)
-      ≡ slot_bits (get_or ss i no_stream).kind (get_or ns at 0) ++ lengths_bits (drop (i + 1) ss) (drop (at + 1) ns)
-  unfolding lengths_bits
-  bits_turn = rw (stream_is, slot_is, next_is)
+module _ (ss : List Stream) (ns : List ℕ) where
+  module _ (i : ℕ) (h : i < length ss) where
+    stream_is : drop i ss ≡ get_or ss i no_stream ∷ drop (i + 1) ss
+    stream_is = rw (add-one i) (drop-cons ss i no_stream h)
 
-  pub sum_turn : (k : ℕ) → sum_of (suc k) (drop at ns) ≡ get_or ns at 0 + sum_of k (drop (at + 1) ns)
-  unfolding sum_of
-  sum_turn k = rw (slot_is, next_is)
+    slot_is : get_or (drop i ns) 0 0 ≡ get_or ns i 0
+    slot_is = get_or-drop i ns 0 0 ∙ rw add-zero
 
--- the same of the first streams of an array, and lengths from a place on
-module _ (streams : List Stream) (count : ℕ) (ns : List ℕ) (from i : ℕ) (h : i < count) (l : count
-    ≤ length streams) where
-  abbrev row : List Stream
-  row = take count streams
+    next_is : drop 1 (drop i ns) ≡ drop (i + 1) ns
+    next_is = drop-drop 1 i ns
 
-  inside : i < length row
-  inside = omega (arith, length-take-le count streams l)
+  none_is : (i : ℕ) → length ss ≤ i → drop i ss ≡ []
+  none_is i h = drop_of_length-le ss h
 
-  place_is : from + (i + 1) ≡ from + i + 1
-  place_is = omega arith
+  -- the bytes of all lengths, where those passed have b
+  unfoldable pub bytes_left : ℕ → ℕ → Option ℕ
+  bytes_left i b = cond (row_fits (drop i ss) (drop i ns)) (Some (b + row_bytes (drop i ss) (drop i ns))) None
 
-  pub array_fits_turn : row_fits (drop i row) (drop (from + i) ns)
-      ≡ (slot_fits (get_or streams i no_stream) (get_or ns (from + i) 0)
-      && row_fits (drop (i + 1) row) (drop (from + (i + 1)) ns))
-  array_fits_turn = rw (← get_or-take count streams i no_stream h, place_is) (fits_turn row ns i (from + i) inside)
+  pub bytes_start : bytes_left 0 0 ≡ row_if_fit ss ns
+  unfolding bytes_left
+  bytes_start = rw zero-add
 
-  pub array_bytes_turn : row_bytes (drop i row) (drop (from + i) ns)
-      ≡ bytes_of_length (get_or streams i no_stream) (get_or ns (from + i) 0)
-      + row_bytes (drop (i + 1) row) (drop (from + (i + 1)) ns)
-  array_bytes_turn = rw (← get_or-take count streams i no_stream h, place_is) (bytes_turn row ns i (from + i) inside)
+  pub bytes_turn : (i b : ℕ) → i < length ss
+      → bytes_left i b
+      ≡ cond (slot_fits (get_or ss i no_stream) (get_or ns i 0))
+      (bytes_left (i + 1) (b + bytes_of_length (get_or ss i no_stream) (get_or ns i 0))) None
+  unfolding bytes_left row_fits row_bytes
+  bytes_turn i b h =
+      rw (stream_is i h, slot_is i h, next_is i h) (go (slot_fits (get_or ss i no_stream) (get_or ns i 0)))
+    where
+      go : (t : Bool) → cond (t && row_fits (drop (i + 1) ss) (drop (i + 1) ns))
+          (Some (b + (bytes_of_length (get_or ss i no_stream) (get_or ns i 0) + row_bytes (drop (i + 1) ss) (drop (i + 1) ns)))) None
+          ≡ cond t (cond (row_fits (drop (i + 1) ss) (drop (i + 1) ns))
+          (Some (b + bytes_of_length (get_or ss i no_stream) (get_or ns i 0) + row_bytes (drop (i + 1) ss) (drop (i + 1) ns))) None) None
+      go true = rw add_assoc
+      go false = refl
 
-  pub array_bits_turn : lengths_bits (drop i row) (drop (from + i) ns)
-      ≡ slot_bits (get_or streams i no_stream).kind (get_or ns (from + i) 0)
-      ++ lengths_bits (drop (i + 1) row) (drop (from + (i + 1)) ns)
-  array_bits_turn = rw (← get_or-take count streams i no_stream h, place_is) (bits_turn row ns i (from + i) inside)
+  pub bytes_end : (i b : ℕ) → length ss ≤ i → bytes_left i b ≡ Some b
+  unfolding bytes_left row_fits row_bytes
+  bytes_end i b h = rw (none_is i h, add-zero)
 
-  pub array_sum_turn : sum_of (count - i) (drop (from + i) ns)
-      ≡ get_or ns (from + i) 0 + sum_of (count - (i + 1)) (drop (from + (i + 1)) ns)
-  array_sum_turn =
-      let e : count - i ≡ suc (count - (i + 1)) = omega arith in
-      rw (e, place_is) (sum_turn row ns i (from + i) inside (count - (i + 1)))
+  -- the bits of the lengths that are left
+  unfoldable pub lengths_left : ℕ → List Bool
+  lengths_left i = lengths_bits (drop i ss) (drop i ns)
 
--- past the last of a row
-pub row_done : (streams : List Stream) (count : ℕ) → count ≤ length streams → drop count (take count streams) ≡ []
-row_done streams count l =
-    let e : count ≡ length (take count streams) = sym (length-take-le count streams l) in
-    subst (λ (n : ℕ). drop n (take count streams) ≡ []) (sym e) (drop-length (take count streams))
+  pub lengths_start : lengths_left 0 ≡ lengths_bits ss ns
+  unfolding lengths_left
+  lengths_start = refl
 
--- the end of the loop that measures a row
-pub row_measured : (streams : List Stream) (count : ℕ) (ns : List ℕ) (from : ℕ) {f : Bool} {l p : ℕ}
-    → count ≤ length streams
-    → (f && row_fits (drop count (take count streams)) (drop (from + count) ns))
-    ≡ row_fits (take count streams) (drop from ns)
-    → l + row_bytes (drop count (take count streams)) (drop (from + count) ns)
-    ≡ row_bytes (take count streams) (drop from ns)
-    → p + sum_of (count - count) (drop (from + count) ns) ≡ sum_of count (drop from ns)
-    → ◌≡◌ {A = Measure} (record { fits = f; lengths = l; payload = p }) (measure_of (take count streams) (drop from ns))
-unfolding row_fits row_bytes sum_of
-row_measured streams count ns from {f} {l} {p} h a b c =
-    let d = row_done streams count h in
-    let z : count - count ≡ 0 = omega arith in
-    let k : length (take count streams) ≡ count = length-take-le count streams h in
-    let x : f ≡ row_fits (take count streams) (drop from ns) = sym (and_true f) ∙ (rw d at a) in
-    let b' = rw d at b in
-    let y : l ≡ row_bytes (take count streams) (drop from ns) = omega (arith, b') in
-    let c' = rw z at c in
-    let w : p ≡ sum_of (length (take count streams)) (drop from ns) = rw k (omega (arith, c')) in
-    λ i. record { fits = x i; lengths = y i; payload = w i }
+  pub lengths_turn : (i : ℕ) → i < length ss
+      → lengths_left i ≡ slot_bits (get_or ss i no_stream).kind (get_or ns i 0) ++ lengths_left (i + 1)
+  unfolding lengths_left lengths_bits
+  lengths_turn i h = rw (stream_is i h, slot_is i h, next_is i h)
+
+  pub lengths_end : (i : ℕ) → length ss ≤ i → lengths_left i ≡ []
+  unfolding lengths_left lengths_bits
+  lengths_end i h = rw (none_is i h)
+
+-- a length is no more than the sum of all
+pub one_of : (ns : List ℕ) (i k : ℕ) → i < k → get_or ns i 0 ≤ sum_of k ns
+unfolding sum_of
+one_of ns i zero h = absurd (omega arith)
+one_of [] i (suc k) h = omega arith
+one_of (n ∷ ns) zero (suc k) h = omega arith
+one_of (n ∷ ns) (suc i) (suc k) h = omega (arith, one_of ns i k (omega arith))
+
+pub ruleset slot_by_slot = (bytes_start, bytes_turn, bytes_end, nat_tests)
+
+pub ruleset length_by_length = (puts, lengths_start, lengths_turn, lengths_end, one_of)

@@ -8,7 +8,7 @@ use lib.Seq.{take_at, drop_at}
 use Rattle.kernel.specs.Bits.{pack}
 use Rattle.kernel.proofs.Held.{length-pack}
 use Rattle.config.proofs.Theorems as config
-use Rattle.writer.specs.declared.Written.TheVariants.{Done}
+use Rattle.std.specs.Prelude.{Ok}
 use Rattle.writer.specs.Written.{element_bits, size_of}
 use Rattle.writer.specs.Write.{out_after}
 use Rattle.writer.specs.Claims.{ReadsBack, WrittenReadsBack, WrittenComesBack, BytesBehindStay}
@@ -32,7 +32,7 @@ written_reads_back w out n types e held h room r =
 
 pub written_comes_back : WrittenComesBack
 written_comes_back w out n types e held h map room table =
-    rw e (comes_back w (take n (out_after w out (Done n))) held map table h
+    rw e (comes_back w (take n (out_after w out (Ok n))) held map table h
     (written_reads_back w out n types e held h (length map) room))
 
 pub bytes_behind_stay : BytesBehindStay

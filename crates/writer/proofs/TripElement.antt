@@ -21,10 +21,10 @@ use Rattle.kernel.proofs.Trip.{reads_need, reads_maybe}
 use Rattle.records.specs.declared.Stream.{Stream}
 use Rattle.records.specs.declared.Record.{Record}
 use Rattle.config.specs.Mux.{stream_mux_config, mux_bits}
-use Rattle.element.specs.declared.Held.{Held}
+use Rattle.element.specs.Held.{Held, usable, config_held}
 use Rattle.element.specs.Mux.{kind_u, kind_c, kind_l, kind_o, slot_from, mux_slot_length_bytes, slot_of, slots_of}
 use Rattle.element.specs.Mux.{payload_length_info, payload_mux, subframe, subframes, other_data, byte_alignment, rest}
-use Rattle.element.specs.Mux.{applied, usable, use_same_stream_mux, after_flag, audio_mux_element, streams_of}
+use Rattle.element.specs.Mux.{applied, use_same_stream_mux, after_flag, audio_mux_element, streams_of}
 use Rattle.writer.specs.Written.{Piece, piece, bits_in, ones_bits, length_bits, slot_bits, lengths_bits, payload_pieces}
 use Rattle.writer.specs.Written.{sum_of, subframe_pieces, other_pieces, alignment}
 use Rattle.writer.specs.Write.{slot_fits, row_fits, slots_fit}
@@ -150,7 +150,7 @@ module _ (r : Record) (ns payload other : List ℕ) (slots : slots_fit (r.subfra
       spelt_done)
 
   -- by the held configuration
-  pub held_trip : (h : Held) → usable h ≡ true → h.config ≡ r
+  pub held_trip : (h : Held) → usable h ≡ true → config_held h ≡ r
       → Spelt 0 (audio_mux_element h) (piece fields kind_u 0 (bits_of 1 1) ∷ last_of (0 + length (bits_of 1 1)))
       (record { sent = false; config = r })
   unfolding audio_mux_element use_same_stream_mux after_flag

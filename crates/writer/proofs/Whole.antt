@@ -19,11 +19,12 @@ use Rattle.records.specs.declared.Record.{Record}
 use Rattle.records.specs.Valid.{valid_of}
 use Rattle.config.specs.Mux.{mux_bits}
 use Rattle.config.proofs.Theorems.{record_reads_back}
-use Rattle.element.specs.declared.Held.{Held}
-use Rattle.element.specs.Mux.{kind_u, kind_c, kind_p, kind_o, kind_a, usable, audio_mux_element, streams_of}
+use Rattle.std.specs.Prelude.{Some}
+use Rattle.element.specs.Held.{Held, config_held, usable}
+use Rattle.element.specs.Mux.{kind_u, kind_c, kind_p, kind_o, kind_a, audio_mux_element, streams_of}
 use Rattle.element.specs.Reply.{answer}
-use Rattle.writer.specs.declared.Written.{Written}
-use Rattle.writer.specs.declared.Written.TheVariants.{Done, Refused}
+use Rattle.std.specs.Prelude.{Result, Ok, Err}
+use Rattle.kernel.specs.declared.Refusal.{Refusal}
 use Rattle.writer.specs.Written.{Piece, piece, bits_in, items_at, sum_of, subframe_pieces, other_pieces, config_pieces}
 use Rattle.writer.specs.Written.{Sent, content_pieces, alignment, pieces, element_bits, size_of}
 use Rattle.writer.specs.Write.{slots_fit, other_bytes, fits, written_of}
@@ -37,10 +38,10 @@ use Rattle.writer.proofs.Lengths.{slots_length, other_length_law}
 
 -- ---- what an answer says
 
-abbrev pub Says : Sent → ℕ → Written → Type 0
-Says w room (Done n) =
+abbrev pub Says : Sent → ℕ → Result ℕ Refusal → Type 0
+Says w room (Ok n) =
     (valid_of w.config ≡ true) × (fits w ≡ true) × (size_of w ≤ 8191) × (size_of w ≤ room) × (n ≡ size_of w)
-Says w room (Refused x) = Unit {0}
+Says w room (Err x) = Unit {0}
 
 pub written_says : (w : Sent) (room : ℕ) → Says w room (written_of w room)
 written_says w room =
@@ -174,7 +175,7 @@ module _ (r : Record) (ns payload other : List ℕ) (types : Typed r) (valid : v
 
   -- with the configuration sent, or the same held
   spelt : (b : Bool) (f : Fits (sent_with b)) → size_of (sent_with b) ≤ 8191 → (held : Held)
-      → (b ≡ true) ⊎ (held ≡ record { present = true; config = r })
+      → (b ≡ true) ⊎ (held ≡ Some r)
       → Spelt 0 (audio_mux_element held) (pieces (sent_with b)) (record { sent = b; config = r })
   spelt true f m held h =
       let w = sent_with true in
@@ -184,11 +185,11 @@ module _ (r : Record) (ns payload other : List ℕ) (types : Typed r) (valid : v
       (λ at. record_reads_back r at types.0 types.1 types.2 types.3 valid))
   spelt false f m held h =
       let w = sent_with false in
-      let e : held ≡ record { present = true; config = r } = not_sent h in
+      let e : held ≡ Some r = not_sent h in
       let u : usable held ≡ true = rw e valid in
       rw (behind_one (piece fields kind_u 0 (bits_of 1 1)) (slots_in w f) (other_pieces r other))
       (held_trip r ns payload other f.slots (few_is w f m) (omega (arith, whole_is w f)) (enough_is w f) held u
-      (ap (λ (h : Held). h.config) e))
+      (ap config_held e))
 
 -- ---- the payload and other data stand in it
 
@@ -307,7 +308,7 @@ answer_is s held room r h k =
     rw (le-ltb room 4368 r, ne_eqb (length s) 0 n, le-ltb 8191 (length s) k)
 
 pub reads_back : (w : Sent) → Typed w.config → valid_of w.config ≡ true → Fits w → size_of w ≤ 8191
-    → (held : Held) → (w.send ≡ true) ⊎ (held ≡ record { present = true; config = w.config }) → (room : ℕ)
+    → (held : Held) → (w.send ≡ true) ⊎ (held ≡ Some w.config) → (room : ℕ)
     → 4368 ≤ room
     → ReadsBack w (pack (size_of w) (element_bits w)) held room
 reads_back w types valid f m held h room r =

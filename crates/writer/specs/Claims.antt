@@ -1,5 +1,5 @@
 -- What is claimed of the writer. proofs/Theorems.antt has the theorem of each.
-use Rattle.std.specs.Prelude.{◌≡◌, Bool, true, false, cond, List, [], ◌∷◌, ◌++◌, ◌⊎◌, ℕ, zero, suc, ◌+◌, ◌-◌, ◌*◌, ◌/◌, ◌^◌, ◌≤◌, ◌<◌, eqb, length, get_or, take, drop}
+use Rattle.std.specs.Prelude.{◌≡◌, Bool, true, false, cond, List, [], ◌∷◌, ◌++◌, ◌⊎◌, ℕ, zero, suc, ◌+◌, ◌-◌, ◌*◌, ◌/◌, ◌^◌, ◌≤◌, ◌<◌, eqb, length, get_or, take, drop, Some, Result, Ok, Err}
 use Rattle.kernel.specs.Exactly.{Exactly}
 use Rattle.kernel.specs.Answer.{unread}
 use Rattle.kernel.specs.declared.Refusal.{Refusal}
@@ -11,13 +11,10 @@ use Rattle.records.specs.Table.{streams_in, table_of}
 use Rattle.records.specs.Valid.{valid_of}
 use Rattle.config.specs.Mux.{config_at}
 use Rattle.config.specs.Claims.{bits_before}
-use Rattle.element.specs.declared.Held.{Held}
-use Rattle.element.specs.declared.Verdict.TheVariants.{Accepted}
+use Rattle.element.specs.Held.{Held}
 use Rattle.element.specs.Mux.{kind_p, kind_o, kind_a, streams_of}
-use Rattle.element.specs.Reply.{answer}
+use Rattle.element.specs.Reply.{answer, accepts}
 use Rattle.element.specs.Left.{shown, left_of}
-use Rattle.writer.specs.declared.Written.{Written}
-use Rattle.writer.specs.declared.Written.TheVariants.{Done, Refused}
 use Rattle.writer.specs.Written.{Sent, sum_of, size_of}
 use Rattle.writer.specs.Write.{written_of, out_after}
 use Rattle.writer.specs.Promises.{WritePromise}
@@ -60,10 +57,10 @@ Typed r = (length r.layers ≡ 16) × (length r.streams ≡ 16) × (r.tara < 2 ^
 
 -- what is written reads back, with the same record held, or with anything held if it was sent
 abbrev pub WrittenReadsBack : Type 0
-WrittenReadsBack = (w : Sent) (out : List ℕ) (n : ℕ) → Typed w.config → written_of w (length out) ≡ Done n
-    → (held : Held) → (w.send ≡ true) ⊎ (held ≡ record { present = true; config = w.config }) → (room : ℕ)
+WrittenReadsBack = (w : Sent) (out : List ℕ) (n : ℕ) → Typed w.config → written_of w (length out) ≡ Ok n
+    → (held : Held) → (w.send ≡ true) ⊎ (held ≡ Some w.config) → (room : ℕ)
     → 4368 ≤ room
-    → ReadsBack w (take n (out_after w out (Done n))) held room
+    → ReadsBack w (take n (out_after w out (Ok n))) held room
 
 -- `read_with` accepts the element; then the record is held, the map shows what was written, and the table is that of a
 -- record that was sent
@@ -71,33 +68,33 @@ pub record ComesBack (w : Sent) (s : List ℕ) (held : Held) (map : List ℕ) (t
   pub items : ℕ
   pub fields : ℕ
   pub replies : (left_of s held map table).reply
-      ≡ record { verdict = Accepted items fields w.send; held = record { present = true; config = w.config } }
+      ≡ record { verdict = accepts items fields w.send; held = Some w.config }
   pub shows : Shows w s (shown items (left_of s held map table).map)
   pub tables : (left_of s held map table).table ≡ cond w.send (table_of w.config.layers w.config.programs) table
 
 -- what `write` leaves in its output comes back through `read_with`, with the same record held, or with anything held if
 -- it was sent
 abbrev pub WrittenComesBack : Type 0
-WrittenComesBack = (w : Sent) (out : List ℕ) (n : ℕ) → Typed w.config → written_of w (length out) ≡ Done n
-    → (held : Held) → (w.send ≡ true) ⊎ (held ≡ record { present = true; config = w.config }) → (map : List ℕ)
+WrittenComesBack = (w : Sent) (out : List ℕ) (n : ℕ) → Typed w.config → written_of w (length out) ≡ Ok n
+    → (held : Held) → (w.send ≡ true) ⊎ (held ≡ Some w.config) → (map : List ℕ)
     → 4368 ≤ length map → (table : List (List ℕ))
     → ComesBack w (take n (out_after w out (written_of w (length out)))) held map table
 
 -- what stood behind the element stays,
 abbrev pub BytesBehindStay : Type 0
-BytesBehindStay = (w : Sent) (out : List ℕ) (n : ℕ) → written_of w (length out) ≡ Done n
+BytesBehindStay = (w : Sent) (out : List ℕ) (n : ℕ) → written_of w (length out) ≡ Ok n
     → let out' = out_after w out (written_of w (length out)) in (length out' ≡ length out) × (drop n out' ≡ drop n out)
 
 -- and a refusal leaves the whole output as it stood
 abbrev pub RefusalKeepsOutput : Type 0
 RefusalKeepsOutput =
-    (w : Sent) (out : List ℕ) (x : Refusal) → written_of w (length out) ≡ Refused x
+    (w : Sent) (out : List ℕ) (x : Refusal) → written_of w (length out) ≡ Err x
     → out_after w out (written_of w (length out)) ≡ out
 
 -- where the record is sent, useSameConfig of each stream but the first, at its place, is 1 exactly where its
 -- configuration equals the one before
 abbrev pub SameWhereEqual : Type 0
-SameWhereEqual = (w : Sent) (out : List ℕ) (n : ℕ) → written_of w (length out) ≡ Done n → w.send ≡ true
+SameWhereEqual = (w : Sent) (out : List ℕ) (n : ℕ) → written_of w (length out) ≡ Ok n → w.send ≡ true
     → let r = w.config in
     (p l : ℕ) → p ≤ r.programs → l ≤ get_or r.layers p 0 → let i = streams_in r.layers r.programs p + l in 1 ≤ i
     → Exactly (bit_at (out_after w out (written_of w (length out))) (1 + length (bits_before r p l))
@@ -118,18 +115,18 @@ pub record RightSizes (w : Sent) : Type 0 where
 abbrev pub RightIsWritten : Type 0
 RightIsWritten =
     (w : Sent) (room : ℕ) → valid_of w.config ≡ true → RightSizes w → size_of w ≤ 8191 → size_of w ≤ room
-    → written_of w room ≡ Done (size_of w)
+    → written_of w room ≡ Ok (size_of w)
 
 -- and only such a record is
 abbrev pub DoneIsRight : Type 0
-DoneIsRight = (w : Sent) (room n : ℕ) → written_of w room ≡ Done n
+DoneIsRight = (w : Sent) (room n : ℕ) → written_of w room ≡ Ok n
     → (valid_of w.config ≡ true) × RightSizes w × (n ≡ size_of w) × (1 ≤ n) × (n ≤ 8191) × (n ≤ room)
 
 -- each refusal is given exactly when 01 says, 16 before 17 before 18 before 19
 module _ (w : Sent) (room : ℕ) where
   -- refusal m is given
   abbrev pub Gives : ℕ → Type 0
-  Gives m = written_of w room ≡ Refused (unread m)
+  Gives m = written_of w room ≡ Err (unread m)
 
   -- each of the four
   pub record RefusedExactly : Type 0 where
@@ -145,5 +142,5 @@ RefusalsAreExact = (w : Sent) (room : ℕ) → RefusedExactly w room
 
 -- the promise of `write` allows one answer and one output
 abbrev pub WrittenOnce : Type 0
-WrittenOnce = (w : Sent) (out out₁ out₂ : List ℕ) (x y : Written)
+WrittenOnce = (w : Sent) (out out₁ out₂ : List ℕ) (x y : Result ℕ Refusal)
     → WritePromise w out x out₁ → WritePromise w out y out₂ → (x ≡ y) × (out₁ ≡ out₂)

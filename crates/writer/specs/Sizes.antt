@@ -1,13 +1,14 @@
 -- What the functions below `write` promise: sizes, and the bits of each part.
-use Rattle.std.specs.Prelude.{Bool, cond, List, [], ◌∷◌, ◌++◌, ℕ, zero, suc, ◌+◌, ◌*◌, ◌/◌, eqb, length, get_or, take, drop}
+use Rattle.std.specs.Prelude.{Bool, cond, List, [], ◌∷◌, ◌++◌, ℕ, zero, suc, ◌+◌, ◌/◌, eqb, length, get_or, take, drop, Option, Some, None, Result, Ok, Err}
 use Rattle.kernel.specs.Bits.{bits_of, unpack}
 use Rattle.kernel.specs.Element.{passed, closed}
+use Rattle.kernel.specs.Answer.{unread}
+use Rattle.kernel.specs.declared.Refusal.{Refusal}
 use Rattle.records.specs.declared.Record.{Record}
 use Rattle.records.specs.declared.Stream.{Stream}
-use Rattle.element.specs.Mux.{kind_o}
-use Rattle.writer.specs.declared.Measure.{Measure}
-use Rattle.writer.specs.Written.{piece, bits_in, config_pieces, sum_of}
-use Rattle.writer.specs.Write.{row_fits, slots_fit}
+use Rattle.element.specs.Mux.{kind_o, streams_of}
+use Rattle.writer.specs.Written.{piece, bits_in, config_pieces, Sent}
+use Rattle.writer.specs.Write.{row_fits, slots_fit, fits}
 
 -- length bytes of one slot,
 abbrev pub bytes_of_length : Stream → ℕ → ℕ
@@ -23,14 +24,18 @@ unfoldable pub length_bytes : ℕ → List Stream → List ℕ → ℕ
 length_bytes zero ss ns = 0
 length_bytes (suc n) ss ns = row_bytes ss ns + length_bytes n ss (drop (length ss) ns)
 
--- whether fixed slots have their size, and the bytes of lengths and payload: of one subframe
-abbrev pub measure_of : List Stream → List ℕ → Measure
-measure_of ss ns = record { fits = row_fits ss ns; lengths = row_bytes ss ns; payload = sum_of (length ss) ns }
+-- of n subframes, where fixed slots have their size
+abbrev pub bytes_if_fit : ℕ → List Stream → List ℕ → Option ℕ
+bytes_if_fit n ss ns = cond (slots_fit n ss ns) (Some (length_bytes n ss ns)) None
 
--- of n subframes
-abbrev pub measure_all : ℕ → List Stream → List ℕ → Measure
-measure_all n ss ns =
-    record { fits = slots_fit n ss ns; lengths = length_bytes n ss ns; payload = sum_of (n * length ss) ns }
+-- of one
+abbrev pub row_if_fit : List Stream → List ℕ → Option ℕ
+row_if_fit ss ns = cond (row_fits ss ns) (Some (row_bytes ss ns)) None
+
+-- 17, or the length bytes of all slots
+abbrev pub measured : Sent → Result ℕ Refusal
+measured w =
+    cond (fits w) (Ok (length_bytes (w.config.subframes + 1) (streams_of w.config) w.lengths)) (Err (unread 17))
 
 -- the flag, and the configuration if sent
 abbrev pub front_bits : Bool → Record → List Bool

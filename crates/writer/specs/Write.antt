@@ -1,13 +1,12 @@
 -- What `write` answers, and every byte of the output.
-use Rattle.std.specs.Prelude.{Bool, true, cond, ◌&&◌, ◌||◌, List, [], ◌∷◌, ◌++◌, ℕ, zero, suc, ◌+◌, ◌*◌, ◌/◌, eqb, ltb, length, get_or, drop}
+use Rattle.std.specs.Prelude.{Bool, true, cond, ◌&&◌, ◌||◌, List, [], ◌∷◌, ◌++◌, ℕ, zero, suc, ◌+◌, ◌*◌, ◌/◌, eqb, ltb, length, get_or, drop, Result, Ok, Err}
 use Rattle.kernel.specs.Bits.{pack}
 use Rattle.kernel.specs.Answer.{unread}
+use Rattle.kernel.specs.declared.Refusal.{Refusal}
 use Rattle.records.specs.declared.Stream.{Stream}
 use Rattle.records.specs.declared.Record.{Record}
 use Rattle.records.specs.Valid.{valid_of}
 use Rattle.element.specs.Mux.{streams_of}
-use Rattle.writer.specs.declared.Written.{Written}
-use Rattle.writer.specs.declared.Written.TheVariants.{Done, Refused}
 use Rattle.writer.specs.Written.{Sent, sum_of, element_bits, size_of}
 
 -- a fixed slot has its own size
@@ -37,16 +36,16 @@ fits w =
     && eqb (length w.other) (other_bytes w.config)))
 
 -- 16, 17, 18, 19, or the bytes written
-abbrev pub written_of : Sent → ℕ → Written
+abbrev pub written_of : Sent → ℕ → Result ℕ Refusal
 written_of w room =
     cond (valid_of w.config)
     (cond (fits w)
-    (cond (ltb 8191 (size_of w)) (Refused (unread 18))
-    (cond (ltb room (size_of w)) (Refused (unread 19)) (Done (size_of w))))
-    (Refused (unread 17)))
-    (Refused (unread 16))
+    (cond (ltb 8191 (size_of w)) (Err (unread 18))
+    (cond (ltb room (size_of w)) (Err (unread 19)) (Ok (size_of w))))
+    (Err (unread 17)))
+    (Err (unread 16))
 
 -- the output afterwards: the element and what stood behind it, or as it stood
-abbrev pub out_after : Sent → List ℕ → Written → List ℕ
-out_after w out (Done n) = pack n (element_bits w) ++ drop n out
-out_after w out (Refused x) = out
+abbrev pub out_after : Sent → List ℕ → Result ℕ Refusal → List ℕ
+out_after w out (Ok n) = pack n (element_bits w) ++ drop n out
+out_after w out (Err x) = out

@@ -3,180 +3,114 @@
 
 mod measures;
 
-ghost use Rattle.std.specs.Prelude.{◌≡◌, true, ◌+◌, ◌-◌, ◌*◌, ◌/◌, ◌%◌, ◌≤◌, eqb, length, take, drop};
-ghost use Rattle.kernel.specs.Bits.{bits_of, Put};
+ghost use Rattle.std.specs.Prelude.{◌≡◌, true, ◌+◌, ◌-◌, ◌*◌, ◌/◌, ◌%◌, ◌≤◌, eqb, length, IfOk};
+ghost use Rattle.kernel.specs.Bits.{bits_of, unpack};
+ghost use Rattle.kernel.specs.Puts.{Room, Puts};
 ghost use Rattle.records.specs.Table.{streams_in};
 ghost use Rattle.records.specs.Valid.{valid_of};
-ghost use Rattle.element.specs.Mux.{streams_of};
-ghost use Rattle.writer.specs.Written.{bits_in, to_send, element_bits, size_of, length_bits, slot_bits, lengths_bits};
+ghost use Rattle.std.proofs.lemmas.List.Edits.{sets};
+ghost use Rattle.writer.specs.Written.{bits_in, to_send, element_bits, size_of, length_bits, lengths_bits};
 ghost use Rattle.writer.specs.Written.{sum_of, subframe_pieces};
 ghost use Rattle.writer.specs.Write.{fits};
 ghost use Rattle.writer.specs.Promises.{WritePromise};
-ghost use Rattle.writer.specs.Sizes.{length_bytes, front_bits, other_bits};
+ghost use Rattle.writer.specs.Sizes.{measured, front_bits, other_bits};
 
 use config_writer::put_mux;
-use kernel::{Refusal, put, put_bytes, put_some, unread};
-use measures::{measure_all, measure_row, other_bytes};
+use kernel::{BitWriter, Refusal, unread};
+use measures::{length_bytes, other_bytes, sum_of};
 use records::{Record, Stream, streams_in, valid};
 
-// The bytes of the element written.
-#[derive(Clone, Copy)]
-pub enum Written {
-    Done(usize),
-    Refused(Refusal),
-}
-
-// Whether fixed slots have their size, and how many bytes the lengths and the payload have.
-#[derive(Clone, Copy)]
-struct Measure {
-    fits: bool,
-    lengths: usize,
-    payload: usize,
-}
-
 // MuxSlotLengthBytes.
-fn put_length(out: &mut [u8], at: usize, n: u32) -> usize
-    requires { (at + 264 ≤ 1000000) × (n ≤ 8191) }
-    ensures { (result ≤ at + 264) × Put out.old at (length_bits n) out.new result }
+#[tactic(auto, using(crate::proofs::Rows::byte_by_byte))]
+fn put_length(w: &mut BitWriter, n: u32)
+    requires { Room 264 w.old × (n ≤ 8191) }
+    ensures { Puts w.old (length_bits n) 264 w.new }
 {
-    let mut left = n;
-    let mut to = at;
-    while 255 <= left {
-        to = put(out, to, 8, 255);
-        left -= 255;
+    for _k in 0..n / 255 {
+        w.put(8, 255);
     }
-    put(out, to, 8, left)
+    w.put(8, n % 255);
 }
 
-fn put_slot(out: &mut [u8], at: usize, s: Stream, n: u32) -> usize
-    requires { (at + 264 ≤ 1000000) × (n ≤ 8191) }
-    ensures { (result ≤ at + 264) × Put out.old at (slot_bits s.kind n) out.new result }
+// The lengths of one subframe, the first of ns; a fixed slot sends none.
+#[tactic(auto, using(crate::proofs::Rows::length_by_length))]
+fn put_lengths(w: &mut BitWriter, streams: &[Stream], ns: &[u32])
+    requires { Room 4224 w.old × (length streams.now ≤ 16) × (length streams.now ≤ length ns.now)
+        × (sum_of (length streams.now) ns.now ≤ 8191) }
+    ensures { Puts w.old (lengths_bits streams.now ns.now) 4224 w.new }
 {
-    if s.kind == 0 {
-        return put_length(out, at, n);
+    for (s, n) in streams.iter().zip(ns) {
+        if s.kind == 0 {
+            put_length(w, *n);
+        }
     }
-    at
-}
-
-// The lengths of one subframe.
-fn put_lengths(
-    out: &mut [u8],
-    at: usize,
-    streams: [Stream; 16],
-    count: usize,
-    ns: &[u32],
-    from: usize,
-) -> usize
-    requires { (at + 4224 ≤ 1000000) × (count ≤ 16) × (from + count ≤ length ns.now)
-        × (sum_of count (drop from ns.now) ≤ 8191) }
-    ensures { (result ≤ at + 4224)
-        × Put out.old at (lengths_bits (take count streams) (drop from ns.now))
-        out.new result }
-{
-    let mut to = at;
-    let mut i: usize = 0;
-    while i < count {
-        let s = streams[i];
-        to = put_slot(out, to, s, ns[from + i]);
-        i += 1;
-    }
-    to
 }
 
 // All lengths, then all payloads, of n subframes.
-fn put_subframes(
-    out: &mut [u8],
-    at: usize,
-    streams: [Stream; 16],
-    count: usize,
-    n: usize,
-    ns: &[u32],
-    payload: &[u8],
-) -> usize
-    requires { (at + 335864 ≤ 1000000) × (count ≤ 16) × (n ≤ 64) × (length ns.now ≡ n * count)
-        × (sum_of (n * count) ns.now ≡ length payload.now) × (length payload.now ≤ 8191) }
-    ensures { (result ≤ at + 335864)
-        × Put out.old at (bits_in
-        (subframe_pieces n (take count streams) ns.now payload.now)) out.new result }
+#[tactic(auto, using(crate::proofs::Subframes::subframe_by_subframe))]
+fn put_subframes(w: &mut BitWriter, streams: &[Stream], n: usize, ns: &[u32], payload: &[u8])
+    requires { Room 335864 w.old × (length streams.now ≤ 16) × (n ≤ 64) × (length ns.now ≡ n * length streams.now)
+        × (sum_of (n * length streams.now) ns.now ≡ length payload.now) × (length payload.now ≤ 8191) }
+    ensures { Puts w.old (bits_in (subframe_pieces n streams.now ns.now payload.now)) 335864 w.new }
 {
-    let mut to = at;
-    let mut from: usize = 0;
-    let mut start: usize = 0;
-    let mut left = n;
-    while 0 < left {
-        let row = measure_row(streams, count, ns, from);
-        let end = start + row.payload;
-        let b = put_lengths(out, to, streams, count, ns, from);
-        to = put_bytes(out, b, &payload[start..end]);
-        from += count;
-        start = end;
-        left -= 1;
+    let mut lengths = ns;
+    let mut bytes = payload;
+    for _j in 0..n {
+        put_lengths(w, streams, lengths);
+        let (row, later) = lengths.split_at(streams.len());
+        let (now, behind) = bytes.split_at(sum_of(row));
+        w.put_bytes(now);
+        lengths = later;
+        bytes = behind;
     }
-    to
 }
 
 // useSameStreamMux, and the configuration if sent.
-fn put_front(out: &mut [u8], send: bool, r: Record) -> usize
-    requires { (r.programs ≤ 15) × (streams_in r.layers r.programs 16 ≤ 16) }
-    ensures { (result ≤ 2974) × Put out.old 0 (front_bits send r) out.new result }
+#[tactic(auto, using(crate::proofs::Parts::parts), unfolding(crate::specs::Written::bits_in))]
+fn put_front(w: &mut BitWriter, send: bool, r: Record)
+    requires { Room 2974 w.old × (r.programs ≤ 15) × (streams_in r.layers r.programs 16 ≤ 16) }
+    ensures { Puts w.old (front_bits send r) 2974 w.new }
 {
     if send {
-        let a = put(out, 0, 1, 0);
-        return put_mux(out, a, r);
+        w.put(1, 0);
+        put_mux(w, r);
+    } else {
+        w.put(1, 1);
     }
-    put(out, 0, 1, 1)
 }
 
-fn put_other(out: &mut [u8], at: usize, present: u32, bits: u32, other: &[u8]) -> usize
-    requires { (at + 65528 ≤ 1000000) × (length other.now ≤ 8191)
-        × (eqb present 1 ≡ true → bits ≤ 8 * length other.now) }
-    ensures { (result ≤ at + 65528)
-        × Put out.old at (other_bits present bits other.now) out.new result }
+#[tactic(auto, using(crate::proofs::Parts::parts), unfolding(crate::specs::Written::bits_in))]
+fn put_other(w: &mut BitWriter, r: Record, other: &[u8])
+    requires { Room 65528 w.old × (length other.now ≤ 8191) × (eqb r.other 1 ≡ true → r.bits ≤ 8 * length other.now) }
+    ensures { Puts w.old (other_bits r.other r.bits other.now) 65528 w.new }
 {
-    if present == 1 {
-        return put_some(out, at, other, bits as usize);
+    if r.other == 1 {
+        w.put_some(other, r.bits as usize);
     }
-    at
 }
 
 // Zeros up to a byte.
-fn put_alignment(out: &mut [u8], at: usize) -> usize
-    requires { at + 7 ≤ 1000000 }
-    ensures { Put out.old at (bits_of ((8 - at % 8) % 8) 0) out.new result }
+fn put_alignment(w: &mut BitWriter)
+    requires { Room 7 w.old }
+    ensures { Puts w.old (bits_of ((8 - w.old.at % 8) % 8) 0) 7 w.new }
 {
-    put(out, at, (8 - at % 8) % 8, 0)
+    let n = (8 - w.at % 8) % 8;
+    w.put(n, 0);
 }
 
 // Lays the element at the start of `out`.
-fn put_element(
-    out: &mut [u8],
-    r: Record,
-    send: bool,
-    ns: &[u32],
-    payload: &[u8],
-    other: &[u8],
-) -> usize
+fn put_element(out: &mut [u8], r: Record, send: bool, ns: &[u32], payload: &[u8], other: &[u8])
     requires { (valid_of r ≡ true) × (fits (to_send r send ns.now payload.now other.now) ≡ true)
         × (size_of (to_send r send ns.now payload.now other.now) ≤ 8191) }
-    ensures { Put out.old 0
-        (element_bits (to_send r send ns.now payload.now other.now))
-        out.new result }
+    ensures { unpack out.new ≡ sets (unpack out.old) 0 (element_bits (to_send r send ns.now payload.now other.now)) }
 {
-    let layers = r.layers;
-    let streams = r.streams;
-    let count = streams_in(layers, r.programs);
-    let a = put_front(out, send, r);
-    let b = put_subframes(
-        out,
-        a,
-        streams,
-        count,
-        r.subframes as usize + 1,
-        ns,
-        payload,
-    );
-    let c = put_other(out, b, r.other, r.bits, other);
-    put_alignment(out, c)
+    let count = streams_in(r.layers, r.programs);
+    let n = r.subframes as usize + 1;
+    let mut w = BitWriter::new(out, 0);
+    put_front(&mut w, send, r);
+    put_subframes(&mut w, &r.streams[..count], n, ns, payload);
+    put_other(&mut w, r, other);
+    put_alignment(&mut w);
 }
 
 // The bytes of the element, of which the lengths have so many. The front is counted by putting it, over bytes that
@@ -186,67 +120,34 @@ fn size_of(scratch: &mut [u8], r: Record, send: bool, lengths: usize, payload: u
         × (payload ≤ 4398046511104) }
     ensures { result ≡ (length (front_bits send r) + (8 * lengths + 8 * payload) + r.bits + 7) / 8 }
 {
-    (put_front(scratch, send, r) + (8 * lengths + 8 * payload) + r.bits as usize + 7) / 8
+    let mut w = BitWriter::new(scratch, 0);
+    put_front(&mut w, send, r);
+    (w.at + (8 * lengths + 8 * payload) + r.bits as usize + 7) / 8
 }
 
-// Refusals 18 and 19, or the element.
-fn write_fitting(
-    scratch: &mut [u8],
-    r: Record,
-    send: bool,
-    lengths: usize,
-    ns: &[u32],
-    payload: &[u8],
-    other: &[u8],
-    out: &mut [u8],
-) -> Written
-    requires { (valid_of r ≡ true) × (fits (to_send r send ns.now payload.now other.now) ≡ true)
-        × (lengths ≡ length_bytes (r.subframes + 1) (streams_of r) ns.now) × (lengths ≤ 17247242240)
-        × (length payload.now ≤ 4398046511104) }
-    ensures { WritePromise (to_send r send ns.now payload.now other.now)
-        out.old result out.new }
-{
-    let size = size_of(scratch, r, send, lengths, payload.len());
-    if size > 8191 {
-        return Written::Refused(unread(18));
-    }
-    if out.len() < size {
-        return Written::Refused(unread(19));
-    }
-    put_element(out, r, send, ns, payload, other);
-    Written::Done(size)
-}
-
-// Refusal 17, or what follows it.
-fn write_valid(
-    r: Record,
-    send: bool,
-    ns: &[u32],
-    payload: &[u8],
-    other: &[u8],
-    out: &mut [u8],
-) -> Written
+// Refusal 17, or the bytes of the lengths.
+#[tactic(auto, using(crate::proofs::Element::measures))]
+fn measured(r: Record, ns: &[u32], payload: &[u8], other: &[u8]) -> Result<usize, Refusal>
     requires { valid_of r ≡ true }
-    ensures { WritePromise (to_send r send ns.now payload.now other.now)
-        out.old result out.new }
+    ensures is { result ≡ measured (to_send r true ns.now payload.now other.now) }
+    ensures small { IfOk result (λ b. (b ≤ 17247242240) × (length payload.now ≤ 4398046511104)) }
 {
-    let layers = r.layers;
-    let streams = r.streams;
-    let count = streams_in(layers, r.programs);
+    let count = streams_in(r.layers, r.programs);
     let n = r.subframes as usize + 1;
     if ns.len() != n * count {
-        return Written::Refused(unread(17));
+        return Err(unread(17));
     }
-    let m = measure_all(streams, count, n, ns);
-    if m.fits & ((payload.len() == m.payload) & (other.len() == other_bytes(r))) {
-        let mut scratch = [0; 1];
-        return write_fitting(&mut scratch, r, send, m.lengths, ns, payload, other, out);
+    let Some(bytes) = length_bytes(&r.streams[..count], n, ns) else {
+        return Err(unread(17));
+    };
+    if payload.len() != sum_of(ns) || other.len() != other_bytes(r) {
+        return Err(unread(17));
     }
-    Written::Refused(unread(17))
+    Ok(bytes)
 }
 
 // One element: a record, whether to send it, the slots' lengths in payload order, payload, and other data packed from
-// the top bit.
+// the top bit; its bytes.
 pub fn write(
     r: Record,
     send: bool,
@@ -254,12 +155,22 @@ pub fn write(
     payload: &[u8],
     other: &[u8],
     out: &mut [u8],
-) -> Written
+) -> Result<usize, Refusal>
     ensures { WritePromise (to_send r send lengths.now payload.now other.now)
         out.old result out.new }
 {
-    if valid(r) {
-        return write_valid(r, send, lengths, payload, other, out);
+    if !valid(r) {
+        return Err(unread(16));
     }
-    Written::Refused(unread(16))
+    let bytes = measured(r, lengths, payload, other)?;
+    let mut scratch = [0; 1];
+    let size = size_of(&mut scratch, r, send, bytes, payload.len());
+    if size > 8191 {
+        return Err(unread(18));
+    }
+    if out.len() < size {
+        return Err(unread(19));
+    }
+    put_element(out, r, send, lengths, payload, other);
+    Ok(size)
 }

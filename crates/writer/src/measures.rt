@@ -1,15 +1,14 @@
 // How many bytes slots, lengths and other data have, and whether they fit.
-ghost use Rattle.std.specs.Prelude.{◌≡◌, ◌+◌, ◌*◌, ◌≤◌, length, take, drop};
+ghost use Rattle.std.specs.Prelude.{◌≡◌, ◌*◌, ◌≤◌, IfSome, length, sum};
 ghost use Rattle.writer.specs.Write.{slot_fits, other_bytes};
-ghost use Rattle.writer.specs.Sizes.{bytes_of_length, measure_of, measure_all};
+ghost use Rattle.writer.specs.Sizes.{bytes_of_length, row_if_fit, bytes_if_fit};
 
-use crate::Measure;
 use records::{Record, Stream};
 
 fn slot_fits(s: Stream, n: u32) -> bool
     ensures { result ≡ slot_fits s n }
 {
-    (s.kind == 0) | (n as usize == s.fixed as usize + 20)
+    s.kind == 0 || n as usize == s.fixed as usize + 20
 }
 
 fn bytes_of_length(s: Stream, n: u32) -> usize
@@ -22,55 +21,47 @@ fn bytes_of_length(s: Stream, n: u32) -> usize
     0
 }
 
-// Of the slots of one subframe.
-pub fn measure_row(streams: [Stream; 16], count: usize, ns: &[u32], from: usize) -> Measure
-    requires { (count ≤ 16) × (from + count ≤ length ns.now) }
-    ensures is { result ≡ measure_of (take count streams) (drop from ns.now) }
-    ensures small { (result.lengths ≤ 269488160) × (result.payload ≤ 68719476736) }
+// The bytes of the lengths of one subframe, the first of ns; None where a fixed slot has not its size.
+#[tactic(auto, using(crate::proofs::Rows::slot_by_slot))]
+fn row_bytes(streams: &[Stream], ns: &[u32]) -> Option<usize>
+    requires { (length streams.now ≤ 16) × (length streams.now ≤ length ns.now) }
+    ensures is { result ≡ row_if_fit streams.now ns.now }
+    ensures small { IfSome result (λ b. b ≤ 269488160) }
 {
-    let mut fits = true;
-    let mut lengths: usize = 0;
-    let mut payload: usize = 0;
-    let mut i: usize = 0;
-    while i < count {
-        let s = streams[i];
-        let n = ns[from + i];
-        fits = fits & slot_fits(s, n);
-        lengths += bytes_of_length(s, n);
-        payload += n as usize;
-        i += 1;
+    let mut bytes: usize = 0;
+    for (s, n) in streams.iter().zip(ns) {
+        if !slot_fits(*s, *n) {
+            return None;
+        }
+        bytes += bytes_of_length(*s, *n);
     }
-    Measure {
-        fits: fits,
-        lengths: lengths,
-        payload: payload,
-    }
+    Some(bytes)
 }
 
-// Of the slots of n subframes.
-pub fn measure_all(streams: [Stream; 16], count: usize, n: usize, ns: &[u32]) -> Measure
-    requires { (count ≤ 16) × (n ≤ 64) × (length ns.now ≡ n * count) }
-    ensures is { result ≡ measure_all n (take count streams) ns.now }
-    ensures small { (result.lengths ≤ 17247242240) × (result.payload ≤ 4398046511104) }
+// Of n subframes.
+#[tactic(auto, using(crate::proofs::Subframes::row_by_row))]
+pub fn length_bytes(streams: &[Stream], n: usize, ns: &[u32]) -> Option<usize>
+    requires { (length streams.now ≤ 16) × (n ≤ 64) × (length ns.now ≡ n * length streams.now) }
+    ensures is { result ≡ bytes_if_fit n streams.now ns.now }
+    ensures small { IfSome result (λ b. b ≤ 17247242240) }
 {
-    let mut fits = true;
-    let mut lengths: usize = 0;
-    let mut payload: usize = 0;
-    let mut from: usize = 0;
-    let mut left = n;
-    while 0 < left {
-        let row = measure_row(streams, count, ns, from);
-        fits = fits & row.fits;
-        lengths += row.lengths;
-        payload += row.payload;
-        from += count;
-        left -= 1;
+    let mut bytes: usize = 0;
+    let mut rest = ns;
+    for _j in 0..n {
+        bytes += row_bytes(streams, rest)?;
+        let (_, later) = rest.split_at(streams.len());
+        rest = later;
     }
-    Measure {
-        fits: fits,
-        lengths: lengths,
-        payload: payload,
-    }
+    Some(bytes)
+}
+
+// The bytes of slots of these lengths.
+pub fn sum_of(ns: &[u32]) -> usize
+    requires { length ns.now ≤ 1024 }
+    ensures is { result ≡ sum ns.now }
+    ensures small { result ≤ 4398046511104 }
+{
+    ns.iter().map(|n| *n as usize).sum()
 }
 
 // The bytes that hold the other data of a record.

@@ -1,13 +1,11 @@
 -- `record_words::lay::lay_all` meets its contract.
-use native.Mathlib.Omega.{arith}
+use Rattle.std.proofs.Common.{arith}
 use Rattle.kernel.proofs.Lists.{stored_then}
 use Rattle.record_words.proofs.lay.lay_all.Goals as goal
 
 pub returns : goal.returns
 returns c =
-    let s = c in
-    let l = s in
-    let h = l in (
-      omega (arith, h.lay_head-head.ensures.0, l.lay_layers-first.ensures.0, s.lay_streams.ensures.0),
-      stored_then h.lay_head-head.ensures.1 (stored_then l.lay_layers-first.ensures.1 s.lay_streams.ensures.1),
-    )
+    let h = c.lay_head-head.ensures in
+    let l = c.lay-first.ensures in
+    let s = c.lay_streams.ensures in
+    (omega (arith, h.0, l.0, s.0), stored_then h.1 (stored_then l.1 s.1))

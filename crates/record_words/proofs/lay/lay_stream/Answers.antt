@@ -2,4 +2,4 @@
 use Rattle.record_words.proofs.lay.lay_stream.Goals as goal
 
 pub returns : goal.returns
-returns c = rw c.stream_words-words.ensures at c.lay.ensures
+returns c = rw c.stream_words.ensures at c.lay.ensures

@@ -3,20 +3,16 @@ use Rattle.record_words.specs.Words.{stream_size, streams_words}
 use Rattle.kernel.proofs.Lists.{ToStore}
 use mathlib.Core.Path.{◌≡◌}
 use mathlib.Core.List.{List}
-use Prim.Native.Nat.{ℕ, ◌≤◌, ◌-◌, ◌+◌, ◌*◌}
+use Prim.Native.Nat.{ℕ, ◌+◌, ◌*◌}
 use lib.ListN.{length, drop}
 use Rattle.records.specs.declared.Stream.{Stream}
 use Rattle.record_words.proofs.lay.lay_streams.Given as goal
 
 -- i streams are laid, up to word `to`
 pub record Laying (out₀ : List ℕ) (at : ℕ) (streams : List Stream) (out : List ℕ) (to i : ℕ) : Type 0 where
-  pub few : i ≤ 16
   pub reached : to ≡ at + stream_size * i
   pub long : length out ≡ length out₀
   pub rest : ToStore out₀ at (streams_words streams) out to (streams_words (drop i streams))
 
-abbrev pub invariant-loop-i : goal.invariant-loop-i
-invariant-loop-i l = Laying l.initial.out l.at l.streams l.out l.to l.i
-
-abbrev pub decreases-loop-i : goal.decreases-loop-i
-decreases-loop-i l = 16 - l.i
+abbrev pub invariant-loop-s : goal.invariant-loop-s
+invariant-loop-s l = Laying l.initial.out l.at l.s-items l.out l.to l.s-index
