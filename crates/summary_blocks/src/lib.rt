@@ -81,14 +81,20 @@ pub struct Summary {
 }
 
 // The lines of an element, by its step and the table that its reading left.
-fn lay_verdict(out: &mut [u8], at: usize, from: Summary, step: Step, table: [[u8; 8]; 16]) -> usize
+fn lay_verdict(
+    out: &mut [u8],
+    at: usize,
+    from: &Summary,
+    step: &Step,
+    table: &[[u8; 8]; 16],
+) -> usize
     requires { at + 14336 ≤ 1000000 }
     ensures { (result ≤ at + 14336)
-        × Stored out.old at (step_text from step table) out.new result }
+        × Stored out.old at (step_text from.now step.now table.now) out.new result }
 {
     let number = from.holding.mark.number;
     match step.verdict {
-        Ok(_) => lay_accepted(out, at, number, from.holding.held, step.sent, table),
+        Ok(_) => lay_accepted(out, at, number, from.holding.held, step.sent, *table),
         Err(x) => lay_refusal(out, at, number, first_wanting(from.said, x), x),
     }
 }
@@ -118,7 +124,7 @@ impl Reporter for Summary {
         map: &[u32],
         table: &[[u8; 8]; 16],
     ) -> usize {
-        lay_verdict(out, at, *self, *step, *table)
+        lay_verdict(out, at, self, step, table)
     }
 
     fn behind(&self, step: &Step) -> Summary {
