@@ -102,7 +102,7 @@ fn with_sent(
     let mut filled = [[255; 8]; 16];
     let config = stream_mux_config(el, c, &mut filled)?;
     let plan = plan_of(config.value);
-    let accepted = finish(el, plan, true, config.next, map)?;
+    let accepted = finish(el, &plan, true, config.next, map)?;
     *table = filled;
     Ok(Taken {
         accepted: accepted,
@@ -131,7 +131,7 @@ fn element_of(
     let Some(plan) = prepared else {
         return Err(refused_at(4, 0, flag.next));
     };
-    let accepted = finish(el, plan, false, flag.next, map)?;
+    let accepted = finish(el, &plan, false, flag.next, map)?;
     Ok(Taken {
         accepted: accepted,
         sent: None,

@@ -203,24 +203,24 @@ fn push_front(map: &mut [u32], sent: bool, at: u32)
 // The walk behind the configuration, first over a map that keeps nothing, and once it is accepted again, into the map.
 pub fn finish(
     el: &[u8],
-    plan: Plan,
+    plan: &Plan,
     sent: bool,
     c: Cursor,
     map: &mut [u32],
 ) -> Result<Accepted, Refusal>
-    requires { Planned plan × (4368 ≤ length map.old) × (1 ≤ c.at) × Stands el.now c }
-    ensures { FinishPromise sent el.now plan c map.old result map.new }
+    requires { Planned plan.now × (4368 ≤ length map.old) × (1 ≤ c.at) × Stands el.now c }
+    ensures { FinishPromise sent el.now plan.now c map.old result map.new }
 {
     let from = Walked {
         items: front_count(sent),
         cursor: c,
     };
-    let end = rest_of(el, &plan, from, &mut [])?.cursor;
+    let end = rest_of(el, plan, from, &mut [])?.cursor;
     if end.at != 8 * el.len() {
         return Err(refused_at(15, end.at, end));
     }
     push_front(map, sent, c.at as u32);
-    let whole = rest_of(el, &plan, from, map)?;
+    let whole = rest_of(el, plan, from, map)?;
     Ok(Accepted {
         items: whole.items,
         fields: whole.cursor.fields as u32,

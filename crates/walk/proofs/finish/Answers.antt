@@ -41,7 +41,7 @@ returns c =
     one _ c.in_ok-end.ensures.walks c.in_ok-whole.ensures.walks in
     let h : c.in_ok-whole.whole.cursor.at ≡ 8 * length c.args.el.now =
     sym (ap (λ (w : Walked). w.cursor.at) q) ∙ c.if-end-el.false in
-    let e : come (front_count c.args.sent) (walk c.args.el.now (planned c.args.plan) c.args.c.at c.args.c.fields)
+    let e : come (front_count c.args.sent) (walk c.args.el.now (planned c.args.plan.now) c.args.c.at c.args.c.fields)
     ≡ Ok c.in_ok-whole.whole = rw (← c.front_count.ensures) (sym c.in_ok-whole.ensures.walks) in
     let f : c.front_count.result ≤ 2 = rw c.front_count.ensures (few_front c.args.sent) in
     finish_done c.args.sent c.args.c.at (8 * length c.args.el.now) c.args.map.now _ _ _ _ e h
