@@ -70,7 +70,10 @@ fn take_out<W: Write>(
     held: Option<Record>,
     b: &mut Buffers,
 ) -> io::Result<()> {
-    let (Ok(a), Some(r)) = (verdict, held) else {
+    let Ok(a) = verdict else {
+        return Ok(());
+    };
+    let Some(r) = held else {
         return Ok(());
     };
     let items = (a.items as usize).min(1092);
