@@ -47,4 +47,5 @@ block_laid_once R S w IsOf s from out out₁ out₂ x y one o p q =
     let e = one _ _ x.reached y.reached a.reached b.reached in
     let f = a.bytes ∙ sym b.bytes in
     let g = a.ended ∙ sym b.ended in
-    (λ i. record { reached = e i; bytes = f i; ended = g i }, (stored_once _ _ _ _ _ _ x.bytes y.bytes a.stored b.stored).1)
+    let c = stored_once _ _ _ _ _ _ x.bytes y.bytes a.stored b.stored in
+    (λ i. record { reached = e i; bytes = f i; ended = g i }, c.1)

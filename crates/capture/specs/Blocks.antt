@@ -1,5 +1,6 @@
 -- The text of frames one after the other, and the frames whose text is laid into a block.
-use Rattle.std.specs.Prelude.{Bool, cond, List, [], ◌∷◌, ◌++◌, ℕ, zero, suc, ◌+◌, ◌≤◌, min, leb, length, Result, Ok, Err}
+use Rattle.std.specs.Prelude.{Bool, cond, List, [], ◌∷◌, ◌++◌, ℕ, zero, suc, ◌+◌, ◌≤◌, min, leb, length}
+use Rattle.std.specs.Prelude.{Result, Ok, Err}
 use Rattle.kernel.specs.declared.Refusal.{Refusal}
 use Rattle.element.specs.declared.Accepted.{Accepted}
 use Rattle.capture.specs.Frames.{Point, Seen, frames_of, behind_all}

@@ -4,7 +4,8 @@
 ghost use Rattle.std.specs.Prelude.{◌≡◌, ℕ, ◌+◌, ◌≤◌, None, length};
 ghost use Rattle.capture.specs.Blocks.{block_room, Report, Within};
 ghost use Rattle.capture.specs.Frames.{Point, start, mark_of, OfPoint, holding_of, holding_behind};
-ghost use Rattle.capture.specs.Promises.{AdvancePromise, MarkPromise, LayPromise, BehindPromise, IsOfSome, BlockPromise};
+ghost use Rattle.capture.specs.Promises.{AdvancePromise, MarkPromise, LayPromise, BehindPromise};
+ghost use Rattle.capture.specs.Promises.{IsOfSome, BlockPromise};
 
 use element::Accepted;
 use kernel::Refusal;

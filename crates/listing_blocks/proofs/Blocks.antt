@@ -35,5 +35,6 @@ module _ (s out : List ℕ) {out' : List ℕ} {mark : Mark} {r : Block Listing} 
       → (mark.at < r.reached.mark.at) × (r.reached.mark.at ≤ length s)
   block_on h f =
       let b = (p o.point o.is).0 in
+      let e = sym (ap (λ (x : Block Listing). x.ended) b) ∙ f in
       rw (ap (λ (x : Block Listing). x.reached.mark) b, o.is)
-      (further_on records (block_room (length out)) s 4368 tt o.point h (sym (ap (λ (x : Block Listing). x.ended) b) ∙ f))
+      (further_on records (block_room (length out)) s 4368 tt o.point h e)

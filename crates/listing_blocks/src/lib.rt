@@ -7,7 +7,7 @@ ghost use Rattle.std.proofs.Common.{rules};
 ghost use Rattle.kernel.specs.Lists.{Stored};
 ghost use Rattle.capture.specs.Frames.{OfPoint, mark_of};
 ghost use Rattle.capture.specs.Blocks.{Within};
-ghost use Rattle.listing_blocks.specs.Listing.{line_of, letter_of, refused_line, records};
+ghost use Rattle.listing_blocks.specs.Listing.{digit_at, line_of, letter_of, refused_line, records};
 ghost use Rattle.listing_blocks.specs.Laid.{line_by, map_lines, verdict_lines, BlockPromise};
 
 use capture::{Block, Mark, Reporter, Step};
@@ -15,34 +15,42 @@ use element::Accepted;
 use items::{Item, item_at};
 use kernel::{Refusal, lay};
 
+// The digit of n at a place 1, 10, 100, ..
+fn digit(n: usize, place: usize) -> u8
+    requires { 1 ≤ place }
+    ensures { result ≡ digit_at n place }
+{
+    b'0' + (n / place % 10) as u8
+}
+
 #[tactic(auto, unfolding(crate::specs::Listing::line_of))]
 fn line_of(number: usize, letter: u8, stream: usize, first: usize, width: usize) -> [u8; 24]
     ensures { result ≡ line_of number letter stream first width }
 {
     [
-        (b'0' as usize + number / 100000 % 10) as u8,
-        (b'0' as usize + number / 10000 % 10) as u8,
-        (b'0' as usize + number / 1000 % 10) as u8,
-        (b'0' as usize + number / 100 % 10) as u8,
-        (b'0' as usize + number / 10 % 10) as u8,
-        (b'0' as usize + number / 1 % 10) as u8,
+        digit(number, 100000),
+        digit(number, 10000),
+        digit(number, 1000),
+        digit(number, 100),
+        digit(number, 10),
+        digit(number, 1),
         b' ',
         letter,
         b' ',
-        (b'0' as usize + stream / 10 % 10) as u8,
-        (b'0' as usize + stream / 1 % 10) as u8,
+        digit(stream, 10),
+        digit(stream, 1),
         b' ',
-        (b'0' as usize + first / 10000 % 10) as u8,
-        (b'0' as usize + first / 1000 % 10) as u8,
-        (b'0' as usize + first / 100 % 10) as u8,
-        (b'0' as usize + first / 10 % 10) as u8,
-        (b'0' as usize + first / 1 % 10) as u8,
+        digit(first, 10000),
+        digit(first, 1000),
+        digit(first, 100),
+        digit(first, 10),
+        digit(first, 1),
         b' ',
-        (b'0' as usize + width / 10000 % 10) as u8,
-        (b'0' as usize + width / 1000 % 10) as u8,
-        (b'0' as usize + width / 100 % 10) as u8,
-        (b'0' as usize + width / 10 % 10) as u8,
-        (b'0' as usize + width / 1 % 10) as u8,
+        digit(width, 10000),
+        digit(width, 1000),
+        digit(width, 100),
+        digit(width, 10),
+        digit(width, 1),
         b'\n',
     ]
 }
