@@ -141,7 +141,7 @@ impl Reporter for Summary {
     ghost most_few = { Prim.search rules };
 }
 
-// The lines of as many frames as a block is sure to have room for 128 rows of each, from a place of a capture on.
+// The lines of as many frames as a block is sure to have room for, from a place of a capture on.
 pub fn lay_block(capture: &[u8], from: Summary, out: &mut [u8]) -> Block<Summary>
     requires { Whole from.holding }
     ensures block { BlockPromise capture.now (point_of from.holding) from.said
