@@ -109,7 +109,11 @@ fn alone_of(
 fn in_front(t: u32, x: Freq) -> Form
     ensures { result ≡ in_front t x }
 {
-    if t == 5 { Form::Type5(x) } else { Form::Type29(x) }
+    if t == 5 {
+        Form::Type5(x)
+    } else {
+        Form::Type29(x)
+    }
 }
 
 // A core under type 5 or 29.

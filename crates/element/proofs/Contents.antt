@@ -4,7 +4,7 @@ use Prim.Native.Nat.{ℕ, ◌*◌}
 use lib.ListN.{length}
 use Rattle.kernel.specs.Element.{Item, walk, read, items_of}
 use Rattle.kernel.proofs.Kept.{Each, each_end}
-use Rattle.element.specs.Held.{Held, config_held, usable}
+use Rattle.element.specs.Held.{Held}
 use Rattle.element.specs.Mux.{audio_mux_element}
 use Rattle.element.specs.Claims.{EachByKind}
 use Rattle.element.proofs.Productions.{OfKind, AppliedOk, Refuses, walked}

@@ -11,7 +11,7 @@ use Rattle.kernel.specs.Bits.{bit_at}
 use Rattle.kernel.specs.Reading.{Stop}
 use Rattle.kernel.specs.Element.{Item, Answer, accepted, rejected, items_of, InClosed, sum_passed}
 use Rattle.records.specs.Table.{table_of}
-use Rattle.element.specs.Held.{Held, config_held, usable}
+use Rattle.element.specs.Held.{Held}
 use Rattle.element.specs.declared.Accepted.{Accepted}
 use Rattle.element.specs.Reply.{accepts}
 use Rattle.element.specs.Mux.{Applied}
@@ -39,7 +39,7 @@ shows : (x : Answer Applied) (map : List ℕ) (k n : ℕ) (sent : Bool) → Each
     → verdict_of x ≡ accepts k n sent → Shows x map k n sent
 shows (accepted a its m) map k n sent h e =
     let v : ◌≡◌ {A = Accepted} (record { items = length its; fields = m; sent = a.sent })
-        (record { items = k; fields = n; sent = sent }) = cc in
+    (record { items = k; fields = n; sent = sent }) = cc in
     let p : length its ≡ k = ap (λ (x : Accepted). x.items) v in
     let q : m ≡ n = ap (λ (x : Accepted). x.fields) v in
     record {

@@ -18,12 +18,12 @@ use Rattle.kernel.specs.Element.{fields, Item, item, Passage, with_item, next, w
 use Rattle.kernel.specs.Element.{count_of, place_of, sum_passed, fell}
 use Rattle.kernel.proofs.Theorems as kernel
 use Rattle.kernel.proofs.Values.{value_one}
-use Rattle.kernel.proofs.Tests.{both, neither}
+use Rattle.kernel.proofs.Tests.{neither}
 use Rattle.kernel.proofs.Kept.{AnswerKept}
 use Rattle.records.specs.declared.Record.{Record}
 use Rattle.records.specs.Valid.{valid_of}
 use Rattle.config.proofs.Given.{ReadOk}
-use Rattle.element.specs.Held.{Held, config_held, usable}
+use Rattle.element.specs.Held.{Held, usable}
 use Rattle.element.specs.Mux.{kind_u, Applied, use_same_stream_mux, after_flag, audio_mux_element}
 use Rattle.element.specs.Mux.{mux_slot_length_bytes, slot_of}
 use Rattle.element.specs.Reply.{answer, held_after, reply_of}

@@ -1,7 +1,7 @@
 -- What `read_with` leaves behind, and the items that the numbers of a map show.
 use Rattle.std.specs.Prelude.{cond, ◌||◌, List, [], ◌∷◌, ℕ, zero, suc, eqb, length, get_or, drop}
 use Rattle.kernel.specs.Element.{closed, spare, Content, fields, passed, Item, item, Answer}
-use Rattle.element.specs.Held.{Held, config_held, usable}
+use Rattle.element.specs.Held.{Held}
 use Rattle.element.specs.declared.Reply.{Reply}
 use Rattle.element.specs.Mux.{kind_p, kind_o, kind_a, Applied}
 use Rattle.element.specs.Reply.{answer, reply_with, map_after, table_after}

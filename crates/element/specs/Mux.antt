@@ -1,5 +1,5 @@
 -- AudioMuxElement with muxConfigPresent 1, as a tree of items.
-use Rattle.std.specs.Prelude.{Bool, true, false, ◌&&◌, ◌||◌, List, [], ◌∷◌, ◌++◌, map, ℕ, zero, suc, ◌+◌, ◌*◌, ◌-◌, ◌%◌, eqb, take}
+use Rattle.std.specs.Prelude.{Bool, true, false, ◌||◌, List, [], ◌∷◌, ◌++◌, map, ℕ, zero, suc, ◌+◌, ◌*◌, ◌-◌, ◌%◌, eqb, take}
 use Rattle.kernel.specs.declared.Window.TheVariants.{Open}
 use Rattle.kernel.specs.Reading.{Reading, give, field, choose, need, ◌>>=◌, ◌>>◌}
 use Rattle.kernel.specs.Element.{Element, done, part, over, spot, follow, Passing, closed, spare}

@@ -1,6 +1,6 @@
 -- The promises of `reader`, each under a name that its function and the claims share.
 use Rattle.std.specs.Prelude.{◌≡◌, List, ℕ, length}
-use Rattle.element.specs.Held.{Held, config_held, usable}
+use Rattle.element.specs.Held.{Held}
 use Rattle.element.specs.declared.Reply.{Reply}
 use Rattle.element.specs.Reply.{answer, map_after, table_after, reply_of}
 

@@ -1,6 +1,6 @@
 -- The plan of a valid configuration tells of what stands behind it.
-use Rattle.std.proofs.Common.{◌≡◌, refl, ap, sym, ◌∙◌, ℕ, suc, ◌+◌, ◌*◌, ◌-◌, ◌≤◌, ◌<◌, Bool, true, false, cond, eqb, List, [], ◌∷◌, ◌++◌, map, length, get_or, set, take, drop, replicate, Option, Some, None, is_some, unwrap_or, arith, append_assoc, add-one}
-use Rattle.std.proofs.Math.ListN.{length-map, length-take, drop_of_length-le, get_or-eq_default, length-append, length-replicate}
+use Rattle.std.proofs.Common.{◌≡◌, refl, ap, sym, ◌∙◌, ℕ, suc, ◌+◌, ◌*◌, ◌-◌, ◌≤◌, ◌<◌, Bool, true, false, cond, eqb, List, [], ◌∷◌, ◌++◌, map, length, get_or, set, take, replicate, Option, Some, None, is_some, unwrap_or, arith, append_assoc, add-one}
+use Rattle.std.proofs.Math.ListN.{length-map, length-take, get_or-eq_default, length-append, length-replicate}
 use Rattle.std.proofs.Math.Seq.{take_at, set-append_seam, take-suc, take-length, get_or-take}
 use Rattle.std.proofs.lemmas.List.{map-append}
 use native.Mathlib.Decide.{dec_lt}

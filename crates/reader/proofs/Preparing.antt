@@ -1,5 +1,5 @@
 -- Laws of what is prepared of what is held.
-use Rattle.std.proofs.Common.{◌≡◌, refl, ap, sym, ◌∙◌, ℕ, Bool, true, false, cond, List, Option, Some, None, eqb}
+use Rattle.std.proofs.Common.{◌≡◌, refl, ap, sym, ◌∙◌, ℕ, Bool, true, false, cond, List, Option, Some, None}
 use Rattle.std.specs.Option.{option_or}
 use borrow.Author.Tests.{eqb-true}
 use Rattle.kernel.specs.Bits.{bit_at}
@@ -8,7 +8,7 @@ use Rattle.records.specs.declared.Record.{Record}
 use Rattle.records.specs.Valid.{valid_of}
 use Rattle.element.specs.Held.{Held, config_held, usable}
 use Rattle.element.specs.Mux.{Applied}
-use Rattle.element.specs.Reply.{answer, verdict_of, sent_by, held_after, reply_with}
+use Rattle.element.specs.Reply.{answer, verdict_of, held_after, reply_with}
 use Rattle.element.proofs.Theorems.{sent_stands_alone, held_is_told}
 use Rattle.walk.specs.declared.Plan.{Plan}
 use Rattle.walk.specs.Plan.{Planned}

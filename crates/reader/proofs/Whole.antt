@@ -1,18 +1,17 @@
 -- From the walk behind the configuration to the answer of the whole element.
-use Rattle.std.proofs.Common.{◌≡◌, refl, ap, sym, ◌∙◌, ℕ, ◌+◌, ◌*◌, ◌-◌, ◌≤◌, ◌<◌, Bool, true, false, cond, ◌||◌, eqb, List, [], ◌++◌, length, drop, min, Option, Some, None, Result, Ok, Err, arith}
+use Rattle.std.proofs.Common.{◌≡◌, refl, ap, sym, ◌∙◌, ℕ, ◌*◌, ◌-◌, ◌≤◌, ◌<◌, Bool, true, false, cond, ◌||◌, eqb, List, ◌++◌, length, drop, Option, Some, None, Result, Ok, Err, arith}
 use mathlib.Core.List.{append-nil}
 use borrow.Author.Tests.{lt-ltb, le-ltb, eq-eqb, ne_eqb}
 use Rattle.kernel.specs.declared.Cursor.{Cursor}
 use Rattle.kernel.specs.declared.Read.{Read}
 use Rattle.kernel.specs.declared.Refusal.{Refusal}
 use Rattle.kernel.specs.declared.Window.TheVariants.{Open}
-use Rattle.kernel.specs.Reading.{Reading, Stop, Outcome, gave, refused, stop, refused_at, run, field, need, give, ◌>>=◌, ◌>>◌}
+use Rattle.kernel.specs.Reading.{Reading, Outcome, gave, refused, stop, refused_at, run, field, give}
 use Rattle.kernel.specs.Answer.{answer as answered, told, unread}
 use Rattle.kernel.specs.Element.{Item, Passage, came, fell, done, fields, item, with_item, next, walk, read, Answer}
 use Rattle.kernel.specs.Element.{accepted, rejected, ended}
 use Rattle.kernel.proofs.Kept.{run_kept}
 use Rattle.kernel.proofs.Steps.{told_bind, told_need, told_give, told_field}
-use Rattle.kernel.proofs.Induction.{by_part}
 use Rattle.kernel.proofs.Values.{value_lt}
 use Rattle.kernel.proofs.Walk.{under, onward, walk_follow, walk_gave}
 use Rattle.asc.proofs.Given.{Numbered}
@@ -23,9 +22,9 @@ use Rattle.config.specs.Mux.{stream_mux_config}
 use Rattle.config.proofs.Given.{ReadOk, mux}
 use Rattle.element.specs.declared.Accepted.{Accepted}
 use Rattle.element.specs.Held.{Held, config_held, usable}
-use Rattle.element.specs.Mux.{kind_u, kind_c, Applied, body, applied, use_same_stream_mux, sent_element, after_flag}
+use Rattle.element.specs.Mux.{kind_u, kind_c, Applied, body, applied, use_same_stream_mux, after_flag}
 use Rattle.element.specs.Mux.{audio_mux_element}
-use Rattle.element.specs.Reply.{answer, accepts, numbers, map_after, table_after}
+use Rattle.element.specs.Reply.{answer, accepts, numbers}
 use Rattle.walk.specs.Parts.{fronted, verdict_from, map_from}
 use Rattle.walk.specs.declared.Plan.{Plan}
 use Rattle.walk.specs.Promises.{FinishPromise}
@@ -144,8 +143,8 @@ module _ (s : List ℕ) (c : Cursor) where
     where
       go : (o : Outcome Record) → Err x ≡ answered o
           → Takes (ended (8 * length s) (with_item (item fields kind_u 0 0 1)
-            (next kind_c c.at o (λ r at' n'. walk s (applied (record { sent = true; config = r })) at' n'))))
-            map table (Err x) map table
+          (next kind_c c.at o (λ r at' n'. walk s (applied (record { sent = true; config = r })) at' n'))))
+          map table (Err x) map table
       go (gave r at' n') q = cc
       go (refused r) q = let z : x ≡ r.refusal = cc in (ap Err z, refl, refl)
 
@@ -173,7 +172,7 @@ module _ (s : List ℕ) (held : Held) (map : List ℕ) (table : List (List ℕ))
     where
       go : (o : Outcome ℕ) → Err x ≡ answered o
           → Takes (ended (8 * length s) (next kind_u 0 o (λ u at n. walk s (after_flag (eqb u 1) (config_held held)) at n)))
-            map table (Err x) map table
+          map table (Err x) map table
       go (gave u at n) q = cc
       go (refused r) q = let z : x ≡ r.refusal = cc in (ap Err z, refl, refl)
 
@@ -195,7 +194,7 @@ module _ (s : List ℕ) (held : Held) (map : List ℕ) (table : List (List ℕ))
     went : (u : ℕ) → f.value ≡ u → (eqb u 0 || usable held) ≡ true
         → read s (audio_mux_element held)
         ≡ ended (8 * length s) (with_item (item fields kind_u 0 0 1)
-          (walk s (after_flag (eqb u 1) (config_held held)) f.next.at f.next.fields))
+        (walk s (after_flag (eqb u 1) (config_held held)) f.next.at f.next.fields))
     unfolding audio_mux_element
     went u q t =
         let b = one_bit s f e in
@@ -228,7 +227,7 @@ module _ (s : List ℕ) (held : Held) (map : List ℕ) (table : List (List ℕ))
     pub held_takes : (f.value ≡ 0 → ⊥) → {plan : Plan} → Some plan ≡ prepared_of held
         → {v : Result Accepted Refusal} {map' : List ℕ} → FinishPromise false s plan f.next map v map'
         → Takes (read s (audio_mux_element held)) map table (taking false (config_held held) v) map'
-          (tabling false (config_held held) v table)
+        (tabling false (config_held held) v table)
     held_takes n {plan} q p =
         let h = prepared_some held plan q in
         rw (flag_held n h.usable_held) (behind_takes s (config_held held) f.next false h.valid h.is map table p)
@@ -276,9 +275,12 @@ replied s held room p = go (answer s held room) refl
       where
         by_sent : (t : Bool) → a.sent ≡ t
             → with_sent p (record { items = length its; fields = n; sent = a.sent })
-              (cond t (Some (record { config = a.config; plan = plan_of a.config })) None)
-            ≡ record { verdict = accepts (length its) n a.sent; sent = cond t (Some a.config) None;
-              prepared = cond t (prepared_of (Some a.config)) p }
+            (cond t (Some (record { config = a.config; plan = plan_of a.config })) None)
+            ≡ record {
+              verdict = accepts (length its) n a.sent;
+              sent = cond t (Some a.config) None;
+              prepared = cond t (prepared_of (Some a.config)) p;
+            }
         by_sent true h =
             ap (λ (z : Option Plan). record { verdict = accepts (length its) n a.sent; sent = Some a.config; prepared = z })
             (sym (prepared_valid a.config (sent_is_valid s held room a its n e h)))

@@ -9,11 +9,9 @@ use Rattle.records.specs.declared.Stream.{Stream}
 use Rattle.records.specs.declared.Record.{Record}
 use Rattle.records.specs.Blank.{no_stream}
 use Rattle.records.specs.Table.{streams_in}
-use Rattle.element.specs.declared.Accepted.{Accepted}
 use Rattle.element.specs.Mux.{kind_u, Applied, streams_of, applied, sent_element}
 use Rattle.walk.specs.declared.Plan.{Plan}
 use Rattle.walk.specs.Parts.{fronted}
-use Rattle.reader.specs.declared.Sent.{Sent}
 use Rattle.reader.specs.declared.Taken.{Taken}
 
 -- the bits of slots that are fixed

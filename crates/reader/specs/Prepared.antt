@@ -1,6 +1,5 @@
 -- What readings need of what is held.
 use Rattle.std.specs.Prelude.{◌≡◌, Bool, cond, List, ℕ, eqb, Option, Some, None}
-use Rattle.std.specs.Option.{option_or}
 use Rattle.kernel.specs.Bits.{bit_at}
 use Rattle.kernel.specs.Element.{Answer, accepted, rejected}
 use Rattle.records.specs.Valid.{valid_of}

@@ -25,4 +25,4 @@ abbrev pub PreparedPromise : List ℕ → Option Plan → List ℕ → List (Lis
     → Type 0
 PreparedPromise s p map table r map' table' = (held : Held) → p ≡ prepared_of held
     → let x = answer s held (length map) in
-      (r ≡ replied_by p x) × (map' ≡ map_after map x) × (table' ≡ table_after table x)
+    (r ≡ replied_by p x) × (map' ≡ map_after map x) × (table' ≡ table_after table x)

@@ -45,7 +45,11 @@ fn fixed_bits(kind: u32, fixed: u32) -> Option<u16>
     requires { fixed ≤ 511 }
     ensures { result ≡ fixed_bits kind fixed }
 {
-    if kind == 0 { None } else { Some((8 * (fixed + 20)) as u16) }
+    if kind == 0 {
+        None
+    } else {
+        Some((8 * (fixed + 20)) as u16)
+    }
 }
 
 // Those of some streams.
@@ -82,9 +86,7 @@ pub fn prepare(held: Option<Record>) -> Option<Plan>
     ensures { result ≡ prepared_of held }
 {
     match held {
-        Some(r) => {
-            if valid(r) { Some(plan_of(r)) } else { None }
-        }
+        Some(r) => { if valid(r) { Some(plan_of(r)) } else { None } }
         None => None,
     }
 }

@@ -1,23 +1,15 @@
 -- What the functions below the outer ones promise, as the words lent.
 use mathlib.Core.Path.{◌≡◌, refl, ap}
-use mathlib.Core.Bool.{Bool, true, false, cond}
 use mathlib.Core.List.{List, [], ◌∷◌, ◌++◌}
 use Prim.Native.Nat.{ℕ, ◌+◌}
 use lib.ListN.{length, get_or, replicate}
 use lib.Seq.{get_or-append_seam}
-use mir.Val.{bool_byte}
 use Rattle.std.specs.Prelude.{Some}
-use Rattle.kernel.specs.Bits.{bit}
-use Rattle.kernel.specs.Element.{Answer, accepted, rejected}
 use Rattle.records.specs.declared.Record.{Record}
 use Rattle.record_words.specs.Words.{record_size, words_of, laid_in}
 use Rattle.record_words.proofs.Theorems.{laid_is_found}
 use Rattle.record_words.proofs.Words.{length_words}
-use Rattle.element.specs.Held.{Held}
-use Rattle.element.specs.declared.Reply.{Reply}
-use Rattle.element.specs.Mux.{Applied}
-use Rattle.element.specs.Reply.{reply_with, reply_of}
-use Rattle.schilfauge.specs.Lent.{held_in, held_words, answer_in, held_after, words_or, kept_after}
+use Rattle.schilfauge.specs.Lent.{held_in, held_words}
 
 -- a record laid over ones is present
 pub laid_held : (r : Record) → laid_in (replicate (record_size + 1) 1) r ≡ held_words r

@@ -38,8 +38,7 @@ fn say_accepted<W: Write>(to: &mut W, x: Accepted) -> io::Result<()> {
     writeln!(
         to,
         "accepted, items {}, fields {}, configuration {whose}",
-        x.items,
-        x.fields
+        x.items, x.fields
     )
 }
 

@@ -4,8 +4,7 @@ use mathlib.Core.Bool.{Bool, true, false, cond}
 use mathlib.Core.List.{List, [], ◌∷◌, ◌++◌}
 use Prim.Native.Nat.{ℕ, ◌+◌, ◌*◌, ◌-◌, ◌≤◌}
 use native.Mathlib.Omega.{arith}
-use Rattle.std.proofs.Common.{Result, Ok, Err}
-use Rattle.kernel.specs.declared.Cursor.{Cursor}
+use Rattle.std.proofs.Common.{Ok, Err}
 use lib.ListN.{length, drop}
 use lib.Seq.{sets}
 use borrow.Author.Tests.{eq-eqb, ne_eqb}
@@ -13,7 +12,6 @@ use Rattle.kernel.specs.declared.Refusal.{Refusal}
 use Rattle.kernel.specs.Reading.{refused_at}
 use Rattle.kernel.specs.Element.{Item, Passage, came, fell, with_item}
 use Rattle.kernel.proofs.Lists.{sets-append, sets_front}
-use Rattle.element.specs.declared.Accepted.{Accepted}
 use Rattle.element.specs.Reply.{numbers, accepts}
 use Rattle.walk.specs.declared.Walked.{Walked}
 use Rattle.walk.specs.Parts.{come, made, fronted, front_numbers, front_count, verdict_from, map_from}

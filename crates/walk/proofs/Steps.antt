@@ -1,13 +1,13 @@
 -- The walk of an element, step by step: each step is an equation of how far it comes and of the map that it leaves.
-use Rattle.std.proofs.Common.{◌≡◌, refl, ap, sym, ◌∙◌, ℕ, suc, ◌+◌, ◌-◌, ◌*◌, ◌≤◌, ◌<◌, Bool, List, [], ◌∷◌, ◌++◌, length, min, max, Result, Ok, Err, add-zero, arith, length-append}
+use Rattle.std.proofs.Common.{◌≡◌, refl, ap, sym, ◌∙◌, ℕ, suc, ◌+◌, ◌-◌, ◌*◌, ◌≤◌, List, [], ◌∷◌, ◌++◌, length, min, max, Result, Ok, Err, add-zero, arith, length-append}
 use Rattle.std.proofs.lemmas.List.Edits.{sets}
 use Rattle.kernel.specs.declared.Window.TheVariants.{Open}
 use Rattle.kernel.specs.declared.Cursor.{Cursor}
 use Rattle.kernel.specs.declared.Read.{Read}
 use Rattle.kernel.specs.declared.Refusal.{Refusal}
-use Rattle.kernel.specs.Reading.{Reading, pass, Outcome, gave, refused, Fit, fits, short, fit, on_fit, run, Stands, refused_at}
+use Rattle.kernel.specs.Reading.{Reading, pass, Outcome, gave, refused, Fit, fits, short, fit, on_fit, run, Stands}
 use Rattle.kernel.specs.Answer.{answer, told, reached}
-use Rattle.kernel.specs.Element.{Passing, closed, spare, passed, Item, item, part_item, Element, done, part, over, spot}
+use Rattle.kernel.specs.Element.{Passing, passed, Item, item, part_item, Element, done, part, over, spot}
 use Rattle.kernel.specs.Element.{follow, Passage, came, fell, with_item, next, over_fit, walk}
 use Rattle.kernel.proofs.Lists.{sets-append}
 use Rattle.kernel.proofs.Steps.{steps as reading_steps}
@@ -128,7 +128,7 @@ module _ {A : Type 0} (s : List ℕ) (w : Walked) (x : Passing) (kind stream wid
 
       go : (f : Fit)
           → sets map (4 * w.items) (numbers (made (over_fit f w.cursor.at w.cursor.fields
-            (with_item it (came a [] (w.cursor.at + width) w.cursor.fields)))))
+          (with_item it (came a [] (w.cursor.at + width) w.cursor.fields)))))
           ≡ by_answer (reached (answer (on_fit f w.cursor.at w.cursor.fields (gave (tt {0}) (w.cursor.at + width) w.cursor.fields))))
           (λ c. sets map (4 * w.items) (kind ∷ stream ∷ w.cursor.at ∷ width ∷ [])) (λ x. map)
       go fits = refl

@@ -1,5 +1,5 @@
 -- The theorem of each claim of specs/Claims.antt.
-use Rattle.std.proofs.Common.{◌≡◌, refl, ap, sym, ◌∙◌, ℕ, ◌-◌, List, ◌++◌, length, take, drop, replicate, Option, Result, Ok, Err, IfOk}
+use Rattle.std.proofs.Common.{◌≡◌, refl, ap, sym, ◌∙◌, ℕ, ◌-◌, List, ◌++◌, length, take, drop, replicate, Result, Ok, Err, IfOk}
 use Rattle.std.proofs.Math.ListN.{take-append-drop}
 use Rattle.kernel.specs.declared.Read.{Read}
 use Rattle.kernel.specs.declared.Refusal.{Refusal}

@@ -77,12 +77,7 @@ fn pass_item(
 
 // A payload for each stream, of these widths.
 #[tactic(auto, using(crate::proofs::Turns::payload_by_payload))]
-fn payloads_of(
-    el: &[u8],
-    widths: &[u32],
-    from: Walked,
-    map: &mut [u32],
-) -> Result<Walked, Refusal>
+fn payloads_of(el: &[u8], widths: &[u32], from: Walked, map: &mut [u32]) -> Result<Walked, Refusal>
     requires { (length widths.now ≤ 16) × Ready el.now from map.old (length widths.now) }
     ensures walks { result ≡ walked el.now (payload_mux 0 widths.now) from }
     ensures maps { map.new ≡ mapped el.now (payload_mux 0 widths.now) from map.old }
@@ -140,12 +135,7 @@ fn subframes_of(
 }
 
 #[tactic(auto, using(crate::proofs::Steps::steps), unfolding(element::specs::Mux::other_data))]
-fn other_of(
-    el: &[u8],
-    other: Option<u32>,
-    from: Walked,
-    map: &mut [u32],
-) -> Result<Walked, Refusal>
+fn other_of(el: &[u8], other: Option<u32>, from: Walked, map: &mut [u32]) -> Result<Walked, Refusal>
     requires { Ready el.now from map.old 1 }
     ensures walks { result ≡ walked el.now (other_by other) from }
     ensures maps { map.new ≡ mapped el.now (other_by other) from map.old }

@@ -1,5 +1,5 @@
 -- `reader::element_of` meets its contract.
-use Rattle.std.proofs.Common.{◌≡◌, ap, sym, ◌∙◌, ◌≤◌, Some, None, Err, arith}
+use Rattle.std.proofs.Common.{ap, sym, ◌∙◌, Err, arith}
 use Rattle.std.proofs.lemmas.Result.{err_from_is_err_and}
 use Rattle.kernel.specs.Reading.{Stands}
 use Rattle.kernel.proofs.Steps.{told_stands}

@@ -1,5 +1,5 @@
 -- `reader::sized_of` meets its contract.
-use Rattle.std.proofs.Common.{◌≡◌, ap, ◌∙◌, length, Err, arith}
+use Rattle.std.proofs.Common.{ap, ◌∙◌, length, Err, arith}
 use Rattle.reader.proofs.Whole.{map_small, length_none, length_over, length_right}
 use Rattle.kernel.specs.Answer.{unread}
 use Rattle.element.specs.Reply.{answer}
@@ -17,9 +17,9 @@ returns-then-el-eq0 c held is =
     let a = c.args in
     let t : Takes (answer a.el.now held (length a.map.now)) a.map.now a.table.now (Err (unread 2)) a.map.now a.table.now =
     elim c.then-el-eq0.branch [
-      then-el-eq0-via-then-el-eq0 w ↦ length_none a.el.now held a.map.now a.table.now (omega arith) w.if-el-eq0.true
+      | then-el-eq0-via-then-el-eq0 w ↦ length_none a.el.now held a.map.now a.table.now (omega arith) w.if-el-eq0.true
       | then-el-eq0-via-else-el-eq0+then-el-gt8191 w ↦
-        length_over a.el.now held a.map.now a.table.now (omega arith) w.if-el-eq0.false w.if-el-gt8191.true
+          length_over a.el.now held a.map.now a.table.now (omega arith) w.if-el-eq0.false w.if-el-gt8191.true
     ] in
     (ap Err c.unread-then-el-eq0.ensures ∙ t.0, t.1, t.2)
 

@@ -1,5 +1,5 @@
 -- `reader::with_sent` meets its contract.
-use Rattle.std.proofs.Common.{◌≡◌, ◌∙◌, ◌≤◌, true, arith}
+use Rattle.std.proofs.Common.{◌∙◌, ◌≤◌, true, arith}
 use Rattle.std.proofs.lemmas.Result.{err_from_is_err_and}
 use Rattle.kernel.specs.Reading.{Stands}
 use Rattle.kernel.proofs.Steps.{told_stands}

@@ -1,13 +1,10 @@
 -- The verdict and the map by how far the walk came.
-use Rattle.std.proofs.Common.{◌≡◌, ap, sym, ◌∙◌, ◌*◌, ◌≤◌, Result, Ok, Err, length, rules, arith}
-use Rattle.std.proofs.lemmas.List.Edits.{sets}
+use Rattle.std.proofs.Common.{◌≡◌, ap, sym, ◌∙◌, ◌*◌, ◌≤◌, Result, Ok, Err, length, arith}
 use Rattle.kernel.specs.declared.Refusal.{Refusal}
-use Rattle.element.specs.declared.Accepted.{Accepted}
-use Rattle.element.specs.Reply.{numbers}
 use Rattle.kernel.specs.Element.{walk}
 use Rattle.walk.specs.Plan.{planned}
 use Rattle.walk.specs.declared.Walked.{Walked}
-use Rattle.walk.specs.Parts.{walked, mapped, front_count, front_numbers, come, made}
+use Rattle.walk.specs.Parts.{walked, mapped, front_count, come}
 use Rattle.std.proofs.lemmas.Result.{err_from_is_err_and}
 use Rattle.walk.proofs.Steps.{walked_stands}
 use Rattle.walk.proofs.Ending.{finish_refused, finish_over, finish_done, few_front}

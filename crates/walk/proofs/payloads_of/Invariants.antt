@@ -12,5 +12,5 @@ invariant-loop-i l =
       walks : walked l.el (payloads_left l.i l.widths) l.walked ≡ walked l.el (payload_mux 0 l.widths) l.fn.from;
       maps : mapped l.el (payloads_left l.i l.widths) l.walked l.map ≡ mapped l.el (payload_mux 0 l.widths) l.fn.from l.initial.map;
       stands : Stands l.el l.walked.cursor;
-      few : l.walked.items ≤ l.fn.from.items + l.i
+      few : l.walked.items ≤ l.fn.from.items + l.i;
     }

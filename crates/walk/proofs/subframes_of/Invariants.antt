@@ -15,5 +15,5 @@ invariant-loop-i l =
       maps : mapped l.el (subframes_left l.count l.i (slots_by l.slots)) l.walked l.map
           ≡ mapped l.el (subframes l.count (slots_by l.slots)) l.fn.from l.initial.map;
       stands : Stands l.el l.walked.cursor;
-      few : l.walked.items ≤ l.fn.from.items + 17 * l.i
+      few : l.walked.items ≤ l.fn.from.items + 17 * l.i;
     }

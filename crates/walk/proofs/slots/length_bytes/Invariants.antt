@@ -11,5 +11,5 @@ invariant-loop-i l =
     record {
       whole : told l.el (slot_left l.i l.slot.value) l.slot.next ≡ told l.el mux_slot_length_bytes l.fn.c;
       stands : Stands l.el l.slot.next;
-      small : l.slot.value ≤ 255 * l.i
+      small : l.slot.value ≤ 255 * l.i;
     }

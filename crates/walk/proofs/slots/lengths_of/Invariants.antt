@@ -13,5 +13,5 @@ invariant-loop-i l =
       whole : told l.el (lengths_left l.widths l.slots l.i) l.next ≡ told l.el (payload_length_info [] (slots_by l.slots)) l.fn.c;
       stands : Stands l.el l.next;
       long : length l.widths ≡ 16;
-      zeros : drop l.i l.widths ≡ replicate (16 - l.i) 0
+      zeros : drop l.i l.widths ≡ replicate (16 - l.i) 0;
     }
