@@ -179,6 +179,7 @@ fn lay_frames<R: Reporter>(
     let room = block_room(out.len());
     let mut reached = from;
     let mut used: usize = 0;
+    // Turns go on while there is room, and no index is counted.
     while used + R::MOST <= room {
         let Some(step) = advance(capture, reached.mark(), map, table) else {
             return Block {

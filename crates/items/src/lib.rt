@@ -9,7 +9,7 @@ ghost use Rattle.items.specs.Copied.{padded, copied};
 
 use kernel::{BitWriter, Cursor, Window, fetch};
 
-// Kind, stream, first bit and width.
+// Kind, stream, first bit and width. The kind is the number that stands in the map, of which the C interface tells.
 #[derive(Clone, Copy)]
 pub struct Item {
     pub kind: u32,

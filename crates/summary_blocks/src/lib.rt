@@ -15,7 +15,7 @@ use kernel::{Refusal, lay};
 use records::Record;
 use summary_lines::{lay_refused, lay_rows};
 
-// Records are compared only where one was sent.
+// Records are compared only where one was sent. They are lent by value: with references the proof did not close.
 #[tactic(auto, using(records::proofs::Derived::record_is))]
 fn lay_accepted(
     out: &mut [u8],
