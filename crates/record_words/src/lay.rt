@@ -62,7 +62,8 @@ fn stream_words(s: Stream) -> [u32; STREAM_WORDS]
     ]
 }
 
-// Words from place `at` on; the place behind them. Not kernel's `lay`, which drops what has no room: here there is room.
+// Words from place `at` on; the place behind them. Not kernel's `lay`, which drops what has no room: here there is
+// room.
 #[tactic(auto, using(crate::proofs::Words::copied))]
 fn lay(out: &mut [u32], at: usize, src: &[u32]) -> usize
     requires { at + length src.now ≤ length out.old }

@@ -52,8 +52,8 @@ pub struct Stream {
     pub fixed: u32, // frameLength, of type 1
 }
 
-// A whole StreamMuxConfig. What the syntax sends as a number stays one, since a record may be lent with any number there
-// (`lay_record` and `record_in` give all of them back), and `valid` judges it.
+// A whole StreamMuxConfig. What the syntax sends as a number stays one, since a record may be lent with any number
+// there (`lay_record` and `record_in` give all of them back), and `valid` judges it.
 #[derive(Clone, Copy, PartialEq, Eq)]
 pub struct Record {
     pub version: u32, // audioMuxVersion

@@ -5,8 +5,8 @@
 ghost use Rattle.std.specs.Prelude.{◌≡◌};
 ghost use Rattle.records.specs.Table.{table_of};
 ghost use Rattle.record_words.specs.Words.{record_in};
-ghost use Rattle.schilfauge.specs.Lent.{number_of, told_after, held_in, held_words, kept_after, has_sent, answer_words, stream_at};
-ghost use Rattle.schilfauge.specs.Lent.{row_words, row_at, sent_in};
+ghost use Rattle.schilfauge.specs.Lent.{number_of, told_after, held_in, held_words, kept_after, has_sent};
+ghost use Rattle.schilfauge.specs.Lent.{answer_words, stream_at, row_words, row_at, sent_in};
 ghost use Rattle.schilfauge.specs.Promises.{HuntPromise, ReadPromise, RowPromise, WritePromise, FramePromise};
 
 use element::Accepted;
