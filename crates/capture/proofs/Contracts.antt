@@ -8,7 +8,7 @@ use Rattle.capture.proofs.Theorems.{advanced_once}
 use Rattle.capture.proofs.start.Reads as start
 use Rattle.capture.proofs.start_holding.Reads as start_holding
 use Rattle.capture.proofs.advance.Reads as advance
-use Rattle.capture.proofs.holding_behind.Reads as holding_behind
+use Rattle.capture.proofs.Holding.pass.Reads as pass
 use Rattle.capture.proofs.block_room.Reads as block_room
 
 pub start_allows_one : AllowsOne start.Learnt (λ k r e. r)
@@ -25,8 +25,8 @@ advance_allows_one k a x y e f p q =
     q.1 in
     (s.0, λ i. (s.1 i, s.2 i))
 
-pub holding_behind_allows_one : AllowsOne holding_behind.Learnt (λ k r e. r)
-holding_behind_allows_one k a x y e f p q = p ∙ sym q
+pub pass_allows_one : AllowsOne pass.Learnt (λ k r e. e.0.now)
+pass_allows_one k a x y e f p q = p ∙ sym q
 
 pub block_room_allows_one : AllowsOne block_room.Learnt (λ k r e. r)
 block_room_allows_one k a x y e f p q = p ∙ sym q

@@ -91,13 +91,15 @@ pub fn advance(
     })
 }
 
-// Where the capture is come to by a step, for who keeps what is held.
-pub fn holding_behind(from: Holding, step: Step) -> Holding
-    ensures { result ≡ holding_behind from step }
-{
-    Holding {
-        mark: step.next,
-        held: step.sent.or(from.held),
+impl Holding {
+    // Goes on to where the capture is come to by a step. In place, since what is held is large, and is seldom sent.
+    pub fn pass(&mut self, step: &Step)
+        ensures { self.new ≡ holding_behind self.old step.now }
+    {
+        self.mark = step.next;
+        if step.sent.is_some() {
+            self.held = step.sent;
+        }
     }
 }
 
@@ -144,9 +146,9 @@ pub trait Reporter: Copy {
             × LayPromise report is_of self.now step.now map.now table.now
             out.old at out.new result };
 
-    // Behind that frame.
-    fn behind(&self, step: &Step) -> Self
-        ensures { BehindPromise report is_of self.now step.now result };
+    // Goes on behind that frame.
+    fn pass(&mut self, step: &Step)
+        ensures { BehindPromise report is_of self.old step.now self.new };
 
     ghost mark_is: { MarkPromise is_of mark };
 
@@ -189,7 +191,7 @@ fn lay_frames<R: Reporter>(
             };
         };
         used = reached.lay(out, used, &step, map, table);
-        reached = reached.behind(&step);
+        reached.pass(&step);
     }
     Block {
         reached: reached,

@@ -53,6 +53,7 @@ fn all<R: Read, W: Write>(
 }
 
 fn main(rt: HostRuntime) -> io::Result<()> {
+    // Buffers of fixed sizes: there is no heap.
     let mut numbers = [0; 65536];
     let mut bytes = [0; 65537];
     let mut more = [0; 65537];

@@ -9,7 +9,8 @@ ghost use Rattle.items.specs.Copied.{padded, copied};
 
 use kernel::{BitWriter, Cursor, Window, fetch};
 
-// Kind, stream, first bit and width. The kind is the number that stands in the map, of which the C interface tells.
+// Kind, stream, first bit and width. The kind is a number, since `item_at` promises that of any map, also of one that no
+// reading made.
 #[derive(Clone, Copy)]
 pub struct Item {
     pub kind: u32,

@@ -24,6 +24,7 @@ fn list<W: Write>(to: &mut W, capture: &[u8], out: &mut [u8]) -> io::Result<()>
 }
 
 fn main(rt: HostRuntime) -> io::Result<()> {
+    // Buffers of fixed sizes: there is no heap.
     let mut buf = [0; 65536];
     let n = read_full(&mut rt.stdin(), &mut buf)?;
     let mut more = [0; 1];

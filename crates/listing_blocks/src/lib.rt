@@ -15,7 +15,7 @@ use element::Accepted;
 use items::{Item, item_at};
 use kernel::{Refusal, lay};
 
-// The digit of n at a place 1, 10, 100, ..
+// The digit of n at a place 1, 10, 100, .. By hand for the same reason as in text.
 fn digit(n: usize, place: usize) -> u8
     requires { 1 ≤ place }
     ensures { result ≡ digit_at n place }
@@ -152,8 +152,8 @@ impl Reporter for Listing {
         lay_verdict(out, at, self.mark.number, step.verdict, map)
     }
 
-    fn behind(&self, step: &Step) -> Listing {
-        Listing { mark: step.next }
+    fn pass(&mut self, step: &Step) {
+        self.mark = step.next;
     }
 
     ghost mark_is = { λ r c x h. h };

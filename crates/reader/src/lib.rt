@@ -41,20 +41,20 @@ pub struct PreparedReply {
 }
 
 // The bits of a stream's slots where they are fixed, by its frameLengthType and frameLength.
-fn fixed_bits(kind: u32, fixed: u32) -> Option<u16>
+fn fixed_bits(kind: u32, fixed: u32) -> Option<u32>
     requires { fixed ≤ 511 }
     ensures { result ≡ fixed_bits kind fixed }
 {
     if kind == 0 {
         None
     } else {
-        Some((8 * (fixed + 20)) as u16)
+        Some(8 * (fixed + 20))
     }
 }
 
 // Those of some streams.
 #[tactic(auto, using(crate::proofs::Plans::filling))]
-fn slots_of(streams: &[Stream]) -> [Option<u16>; 16]
+fn slots_of(streams: &[Stream]) -> [Option<u32>; 16]
     requires { (length streams.now ≤ 16) × Fixable streams.now }
     ensures { result ≡ slots_of streams.now }
 {

@@ -53,7 +53,8 @@ pub struct Stream {
 }
 
 // A whole StreamMuxConfig. What the syntax sends as a number stays one, since a record may be lent with any number
-// there (`lay_record` and `record_in` give all of them back), and `valid` judges it.
+// there (`lay_record` and `record_in` give all of them back), and `valid` judges it. Arrays have 16 places, since there is
+// no heap.
 #[derive(Clone, Copy, PartialEq, Eq)]
 pub struct Record {
     pub version: u32, // audioMuxVersion

@@ -3,7 +3,7 @@
 
 ghost use Rattle.std.specs.Prelude.{◌≤◌, ◌<◌, length};
 
-use capture::{advance, holding_behind, start_holding};
+use capture::{advance, start_holding};
 use element::Accepted;
 use intake::read_full;
 use items::{copy_item, item_at};
@@ -94,7 +94,7 @@ fn take_out<W: Write>(
 fn all<W: Write>(to: &mut W, capture: &[u8], b: &mut Buffers) -> io::Result<()> {
     let mut reached = start_holding();
     while let Some(step) = advance(capture, reached.mark, &mut b.map, &mut b.table) {
-        reached = holding_behind(reached, step);
+        reached.pass(&step);
         let el = element_at(capture, step.place, step.size);
         take_out(to, el, step.verdict, reached.held, b)?;
     }
@@ -102,6 +102,7 @@ fn all<W: Write>(to: &mut W, capture: &[u8], b: &mut Buffers) -> io::Result<()> 
 }
 
 fn main(rt: HostRuntime) -> io::Result<()> {
+    // Buffers of fixed sizes: there is no heap.
     let mut buf = [0; 65536];
     let n = read_full(&mut rt.stdin(), &mut buf)?;
     let mut more = [0; 1];

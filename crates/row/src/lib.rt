@@ -6,8 +6,8 @@ ghost use Rattle.row.specs.Row.{hz_at, hz_of, sbr_of, ps_of, output_of, channels
 
 use records::{Form, Freq, Record, Stream};
 
-// SBR and PS are 1, 0, or minus one where the configuration sent no flag: numbers, as the C interface has them in a
-// row.
+// SBR and PS are 1, 0, or minus one where the configuration sent no flag: numbers, since `row_of`
+// promises those of `row_in`.
 #[derive(Clone, Copy)]
 pub struct Row {
     pub program: u32,

@@ -31,6 +31,7 @@ fn show<W: Write>(to: &mut W, capture: &[u8], out: &mut [u8]) -> io::Result<usiz
 }
 
 fn main(rt: HostRuntime) -> io::Result<()> {
+    // Buffers of fixed sizes: there is no heap.
     let mut buf = [0; 65536];
     let n = read_full(&mut rt.stdin(), &mut buf)?;
     let mut more = [0; 1];

@@ -9,7 +9,7 @@ ghost use Rattle.capture.specs.Frames.{holding_of, point_of, Whole};
 ghost use Rattle.summary_blocks.specs.Summary.{first_wanting, refusal_text, lines, head_text, end_text};
 ghost use Rattle.summary_blocks.specs.Laid.{accepted_by, step_text, verdict_said, BlockPromise};
 
-use capture::{Block, Holding, Mark, Reporter, Step, holding_behind};
+use capture::{Block, Holding, Mark, Reporter, Step};
 use element::Accepted;
 use kernel::{Refusal, lay};
 use records::Record;
@@ -127,11 +127,9 @@ impl Reporter for Summary {
         lay_verdict(out, at, self, step, table)
     }
 
-    fn behind(&self, step: &Step) -> Summary {
-        Summary {
-            holding: holding_behind(self.holding, *step),
-            said: said_after(self.said, step.verdict),
-        }
+    fn pass(&mut self, step: &Step) {
+        self.holding.pass(step);
+        self.said = said_after(self.said, step.verdict);
     }
 
     ghost mark_is = { λ r c x h. ap (λ k. k.mark) h.0 };

@@ -30,7 +30,8 @@ fn lay_layers(
     to
 }
 
-// A line for each stream that the table has; the byte behind them.
+// A line for each stream that the table has; the byte behind them. Record and table stay two: the table is what a
+// reading left, and what is promised here holds of any.
 #[tactic(auto, using(crate::proofs::Turns::program_by_program))]
 pub fn lay_rows(out: &mut [u8], at: usize, element: usize, r: Record, table: [[u8; 8]; 16]) -> usize
     requires { at + 14336 ≤ 1000000 }

@@ -21,7 +21,8 @@ fn digit_or_blank(n: usize) -> u8
     if n == 0 { b' ' } else { digit(n) }
 }
 
-// The places in front of a number's last digit.
+// The places in front of a number's last digit. By hand, since what std formats is known of a writer's bytes alone, and
+// here each byte of what is lent is promised.
 #[tactic(auto, using(crate::proofs::Figures::laying_figures))]
 fn lay_figures(out: &mut [u8], at: usize, width: usize, n: usize)
     requires { at + width ≤ 1000000 }

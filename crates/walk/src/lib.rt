@@ -20,7 +20,7 @@ use slots::lengths_of;
 // other data, if there is any.
 #[derive(Clone, Copy)]
 pub struct Plan {
-    pub slots: [Option<u16>; 16],
+    pub slots: [Option<u32>; 16],
     pub streams: usize,
     pub subframes: u32,
     pub other: Option<u32>,
@@ -33,7 +33,8 @@ pub struct Walked {
     pub cursor: Cursor,
 }
 
-// An item stored behind the k that stand. A map without a place keeps nothing: it is lent where a walk is dry.
+// An item stored behind the k that stand, kind, stream, first bit and width, all of them numbers, as the C interface
+// gives a map. A map without a place keeps nothing: it is lent where a walk is dry.
 #[tactic(auto, using(crate::proofs::Steps::sets_none))]
 fn push(map: &mut [u32], k: u32, item: [u32; 4])
     requires { 0 < length map.old → 4 * (k + 1) ≤ length map.old }
@@ -94,7 +95,7 @@ fn payloads_of(el: &[u8], widths: &[u32], from: Walked, map: &mut [u32]) -> Resu
 #[tactic(auto, using(crate::proofs::Steps::part_steps), unfolding(element::specs::Mux::subframe))]
 fn subframe_of(
     el: &[u8],
-    slots: &[Option<u16>],
+    slots: &[Option<u32>],
     from: Walked,
     map: &mut [u32],
 ) -> Result<Walked, Refusal>
@@ -117,7 +118,7 @@ fn subframe_of(
 #[tactic(auto, using(crate::proofs::Turns::subframe_by_subframe))]
 fn subframes_of(
     el: &[u8],
-    slots: &[Option<u16>],
+    slots: &[Option<u32>],
     count: u32,
     from: Walked,
     map: &mut [u32],

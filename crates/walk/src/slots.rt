@@ -31,13 +31,13 @@ fn length_bytes(el: &[u8], c: Cursor) -> Result<Read<u32>, Refusal>
 
 // The bits of a slot: by length bytes, where they are not fixed.
 #[tactic(auto, using(kernel::proofs::Steps::steps), unfolding(crate::specs::Plan::slot_by))]
-fn slot_bits(el: &[u8], slot: Option<u16>, c: Cursor) -> Result<Read<u32>, Refusal>
+fn slot_bits(el: &[u8], slot: Option<u32>, c: Cursor) -> Result<Read<u32>, Refusal>
     requires { Stands el.now c }
     ensures { result ≡ told el.now (slot_by slot) c }
 {
     match slot {
         Some(width) => Ok(Read {
-            value: u32::from(width),
+            value: width,
             next: c,
         }),
         None => {
@@ -52,7 +52,7 @@ fn slot_bits(el: &[u8], slot: Option<u16>, c: Cursor) -> Result<Read<u32>, Refus
 
 // The slots of so many streams; zeros stand where there is none.
 #[tactic(auto, using(crate::proofs::Turns::slot_by_slot))]
-pub fn lengths_of(el: &[u8], slots: &[Option<u16>], c: Cursor) -> Result<Read<[u32; 16]>, Refusal>
+pub fn lengths_of(el: &[u8], slots: &[Option<u32>], c: Cursor) -> Result<Read<[u32; 16]>, Refusal>
     requires { (length slots.now ≤ 16) × Stands el.now c }
     ensures told { taken (length slots.now) result ≡ told el.now (payload_length_info [] (slots_by slots.now)) c }
     ensures zeros { IfOk result (λ ws. drop (length slots.now) ws.value ≡ replicate (16 - length slots.now) 0) }

@@ -39,7 +39,7 @@ loop-used-smaller g c =
     let o = i.begun c.requires.1.point c.requires.1.state c.requires.1.is in
     let k = c.mark.ensures ∙ m.mark_is _ _ _ o.is in
     let t = took _ 4368 _ _ _ k i.rooms.map_room c.in-Some.ensures in
-    nearer t (m.mark_is _ _ _ o.is) (m.mark_is _ _ _ (c.behind-reached.ensures _ _ _ _ _ _ _ o.is t))
+    nearer t (m.mark_is _ _ _ o.is) (m.mark_is _ _ _ (c.pass.ensures _ _ _ _ _ _ _ o.is t))
 
 pub loop-used-preserved : goal.loop-used-preserved
 loop-used-preserved g c =
@@ -56,7 +56,7 @@ loop-used-preserved g c =
           record {
             point = behind t.seen;
             state = _;
-            is = c.behind-reached.ensures _ _ _ _ _ _ _ o.is t;
+            is = c.pass.ensures _ _ _ _ _ _ _ o.is t;
             left = left_on _ _ _ 4368 o.left t.seen t.is (omega (arith, q, m.most_is, c.MOST.ensures))
                 (n.1 _ _ _ _ _ o.is t);
           };

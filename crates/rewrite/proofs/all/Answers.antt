@@ -14,10 +14,10 @@ pub loop-step-smaller : goal.loop-step-smaller
 loop-step-smaller g c =
     let m = whole_mark c.loop-step.reached c.loop-step.invariant in
     let t = took _ 4368 _ _ _ m (search rules) c.in-Some.ensures in
-    rw c.holding_behind-reached.ensures (omega (arith, took_further t))
+    rw c.pass.ensures (omega (arith, took_further t))
 
 pub loop-step-preserved : goal.loop-step-preserved
 loop-step-preserved g c =
     let m = whole_mark c.loop-step.reached c.loop-step.invariant in
     let t = took _ 4368 _ _ _ m (search rules) c.in-Some.ensures in
-    whole_then t c.loop-step.reached refl c.holding_behind-reached.ensures
+    whole_then t c.loop-step.reached refl c.pass.ensures
