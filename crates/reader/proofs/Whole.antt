@@ -1,6 +1,7 @@
 -- From the walk behind the configuration to the answer of the whole element.
 use Rattle.std.proofs.Common.{◌≡◌, refl, ap, sym, ◌∙◌, ℕ, ◌*◌, ◌-◌, ◌≤◌, ◌<◌, Bool, true, false, cond, ◌||◌, eqb, List, ◌++◌, length, drop, Option, Some, None, Result, Ok, Err, arith}
 use mathlib.Core.List.{append-nil}
+use Rattle.std.specs.Option.{option_or}
 use borrow.Author.Tests.{lt-ltb, le-ltb, eq-eqb, ne_eqb}
 use Rattle.kernel.specs.declared.Cursor.{Cursor}
 use Rattle.kernel.specs.declared.Read.{Read}
@@ -24,19 +25,16 @@ use Rattle.element.specs.declared.Accepted.{Accepted}
 use Rattle.element.specs.Held.{Held, config_held, usable}
 use Rattle.element.specs.Mux.{kind_u, kind_c, Applied, body, applied, use_same_stream_mux, after_flag}
 use Rattle.element.specs.Mux.{audio_mux_element}
-use Rattle.element.specs.Reply.{answer, accepts, numbers}
+use Rattle.element.specs.Reply.{answer, accepts, numbers, verdict_of, sent_by}
 use Rattle.walk.specs.Parts.{fronted, verdict_from, map_from}
 use Rattle.walk.specs.declared.Plan.{Plan}
 use Rattle.walk.specs.Promises.{FinishPromise}
-use Rattle.element.proofs.Theorems.{sent_is_valid}
-use Rattle.reader.specs.declared.Sent.{Sent}
-use Rattle.reader.specs.declared.Taken.{Taken}
 use Rattle.reader.specs.declared.PreparedReply.{PreparedReply}
-use Rattle.reader.specs.Prepared.{prepared_of, replied_by}
-use Rattle.reader.specs.Parts.{plan_of, behind_of, sent_of, taken_by}
+use Rattle.reader.specs.Prepared.{prepared_of, prepared_after, replied_by}
+use Rattle.reader.specs.Parts.{plan_of, behind_of, sent_of}
 use Rattle.reader.specs.Promises.{Takes}
 use Rattle.reader.proofs.Plans.{plan_is}
-use Rattle.reader.proofs.Preparing.{prepared_some, prepared_valid}
+use Rattle.reader.proofs.Preparing.{prepared_some}
 
 -- ---- from what is told to the run
 
@@ -75,30 +73,44 @@ fronted_with true at a (fell r its) = refl
 fronted_with false at a (came u its p n) = refl
 fronted_with false at a (fell r its) = refl
 
--- what is taken from the element, and its table, by the verdict
-abbrev pub taking : Bool → Record → Result Accepted Refusal → Result Taken Refusal
-taking sent r (Ok a) =
-    Ok (record { accepted = a; sent = cond sent (Some (record { config = r; plan = plan_of r })) None })
-taking sent r (Err x) = Err x
-
+-- the table, what was sent and what is prepared, by the verdict
 abbrev pub tabling : Bool → Record → Result Accepted Refusal → List (List ℕ) → List (List ℕ)
 tabling sent r (Ok a) table = cond sent (table_of r.layers r.programs) table
 tabling sent r (Err x) table = table
 
-module _ (sent : Bool) (r : Record) (bits : ℕ) (map : List ℕ) (table : List (List ℕ)) where
+abbrev pub sending : Bool → Record → Result Accepted Refusal → Held → Held
+sending sent r (Ok a) h = option_or (cond sent (Some r) None) h
+sending sent r (Err x) h = h
+
+abbrev pub preparing : Bool → Record → Result Accepted Refusal → Option Plan → Option Plan
+preparing sent r (Ok a) p = cond sent (prepared_of (Some r)) p
+preparing sent r (Err x) p = p
+
+unsent : (r : Record) (v : Result Accepted Refusal) (table : List (List ℕ)) (h : Held) (p : Option Plan)
+    → (tabling false r v table ≡ table) × (sending false r v h ≡ h) × (preparing false r v p ≡ p)
+unsent r (Ok a) table h p = (refl, refl, refl)
+unsent r (Err x) table h p = (refl, refl, refl)
+
+or_none : (h : Held) → option_or h None ≡ h
+or_none (Some r) = refl
+or_none None = refl
+
+module _ (sent : Bool) (r : Record) (bits : ℕ) (map : List ℕ) (table : List (List ℕ)) (h : Held) (p : Option Plan) where
   abbrev a : Applied
   a = record { sent = sent; config = r }
 
   ends : (x : Passage (Unit {0})) → let v = verdict_from sent bits x in
-      Takes (ended bits (with a x)) map table (taking sent r v) (map_from map bits x) (tabling sent r v table)
-  ends (fell z its) = (refl, refl, refl)
+      Takes (ended bits (with a x)) map table h p v (map_from map bits x) (tabling sent r v table) (sending sent r v h)
+      (preparing sent r v p)
+  ends (fell z its) = (refl, refl, refl, refl, refl)
   ends (came u its at n) = go (eqb at bits)
     where
       go : (t : Bool) → let v = cond t (accepts (length its) n sent) (Err (refused_at 15 at n)) in
-          Takes (cond t (accepted a its n) (rejected (stop 15 at 0 n) its)) map table (taking sent r v)
-          (cond t (numbers its ++ drop (4 * length its) map) map) (tabling sent r v table)
-      go true = (refl, refl, refl)
-      go false = (refl, refl, refl)
+          Takes (cond t (accepted a its n) (rejected (stop 15 at 0 n) its)) map table h p v
+          (cond t (numbers its ++ drop (4 * length its) map) map) (tabling sent r v table) (sending sent r v h)
+          (preparing sent r v p)
+      go true = (refl, refl, refl, refl, refl)
+      go false = (refl, refl, refl, refl, refl)
 
 module _ (s : List ℕ) (r : Record) (c : Cursor) (sent : Bool) where
   behind_with : behind_of s r sent c
@@ -111,11 +123,14 @@ module _ (s : List ℕ) (r : Record) (c : Cursor) (sent : Bool) where
 
   -- from what `finish` promises
   pub behind_takes : valid_of r ≡ true → {plan : Plan} → plan ≡ plan_of r → (map : List ℕ) (table : List (List ℕ))
-      {v : Result Accepted Refusal} {map' : List ℕ} → FinishPromise sent s plan c map v map'
-      → Takes (behind_of s r sent c) map table (taking sent r v) map' (tabling sent r v table)
-  behind_takes h e map table p =
-      let q = rw (e, plan_is r h) at p in
-      rw (behind_with, q.0, q.1) (ends sent r (8 * length s) map table (fronted sent c.at (walk s (body r) c.at c.fields)))
+      (h : Held) (p : Option Plan) {v : Result Accepted Refusal} {map' : List ℕ}
+      → FinishPromise sent s plan c map v map'
+      → Takes (behind_of s r sent c) map table h p v map' (tabling sent r v table) (sending sent r v h)
+      (preparing sent r v p)
+  behind_takes valid e map table h p f =
+      let q = rw (e, plan_is r valid) at f in
+      rw (behind_with, q.0, q.1)
+      (ends sent r (8 * length s) map table h p (fronted sent c.at (walk s (body r) c.at c.fields)))
 
 -- ---- where a configuration stands
 
@@ -136,17 +151,17 @@ module _ (s : List ℕ) (c : Cursor) where
   sent_valid q e =
       (rw (ok_gave s stream_mux_config c q e) at (run_kept Numbered ReadOk refl refl s c.at c.fields mux)).valid
 
-  pub sent_refused : {x : Refusal} (map : List ℕ) (table : List (List ℕ)) → Err x ≡ told s stream_mux_config c
-      → Takes (sent_of s c) map table (Err x) map table
+  pub sent_refused : {x : Refusal} (map : List ℕ) (table : List (List ℕ)) (h : Held) (p : Option Plan)
+      → Err x ≡ told s stream_mux_config c → Takes (sent_of s c) map table h p (Err x) map table h p
   unfolding sent_of walk next with_item told
-  sent_refused {x} map table e = go (run s stream_mux_config c.at c.fields) e
+  sent_refused {x} map table h p e = go (run s stream_mux_config c.at c.fields) e
     where
       go : (o : Outcome Record) → Err x ≡ answered o
           → Takes (ended (8 * length s) (with_item (item fields kind_u 0 0 1)
           (next kind_c c.at o (λ r at' n'. walk s (applied (record { sent = true; config = r })) at' n'))))
-          map table (Err x) map table
+          map table h p (Err x) map table h p
       go (gave r at' n') q = cc
-      go (refused r) q = let z : x ≡ r.refusal = cc in (ap Err z, refl, refl)
+      go (refused r) q = let z : x ≡ r.refusal = cc in (ap Err z, refl, refl, refl, refl)
 
 -- ---- the flag
 
@@ -164,20 +179,20 @@ pub record Bit (f : Read ℕ) : Type 0 where
 pub one_bit : (s : List ℕ) (f : Read ℕ) → Ok f ≡ told s (field Open 1) origin → Bit f
 one_bit s f e = record { at = grind (arith, told_field); narrow = grind (arith, told_field, value_lt) }
 
-module _ (s : List ℕ) (held : Held) (map : List ℕ) (table : List (List ℕ)) where
+module _ (s : List ℕ) (held : Held) (map : List ℕ) (table : List (List ℕ)) (h : Held) (p : Option Plan) where
   flag_refused : {x : Refusal} → Err x ≡ told s (flag held) origin
-      → Takes (read s (audio_mux_element held)) map table (Err x) map table
+      → Takes (read s (audio_mux_element held)) map table h p (Err x) map table h p
   unfolding audio_mux_element walk next told
   flag_refused {x} e = go (run s (flag held) 0 0) e
     where
       go : (o : Outcome ℕ) → Err x ≡ answered o
           → Takes (ended (8 * length s) (next kind_u 0 o (λ u at n. walk s (after_flag (eqb u 1) (config_held held)) at n)))
-          map table (Err x) map table
+          map table h p (Err x) map table h p
       go (gave u at n) q = cc
-      go (refused r) q = let z : x ≡ r.refusal = cc in (ap Err z, refl, refl)
+      go (refused r) q = let z : x ≡ r.refusal = cc in (ap Err z, refl, refl, refl, refl)
 
   pub flag_short : {x : Refusal} → Err x ≡ told s (field Open 1) origin
-      → Takes (read s (audio_mux_element held)) map table (Err x) map table
+      → Takes (read s (audio_mux_element held)) map table h p (Err x) map table h p
   unfolding use_same_stream_mux
   flag_short {x} e = flag_refused (sym (told_bind s origin (field Open 1) _ ∙ rw (sym e)))
 
@@ -220,34 +235,40 @@ module _ (s : List ℕ) (held : Held) (map : List ℕ) (table : List (List ℕ))
         went 1 z u
 
     pub flag_unheld : (f.value ≡ 0 → ⊥) → usable held ≡ false
-        → Takes (read s (audio_mux_element held)) map table (Err (refused_at 4 0 f.next.fields)) map table
+        → Takes (read s (audio_mux_element held)) map table h p (Err (refused_at 4 0 f.next.fields)) map table h p
     flag_unheld n u = flag_refused (sym (flag_told ∙ rw (ne_eqb f.value 0 n, u)))
 
-    -- the held configuration applies
+    -- the held configuration applies, and stays
     pub held_takes : (f.value ≡ 0 → ⊥) → {plan : Plan} → Some plan ≡ prepared_of held
         → {v : Result Accepted Refusal} {map' : List ℕ} → FinishPromise false s plan f.next map v map'
-        → Takes (read s (audio_mux_element held)) map table (taking false (config_held held) v) map'
-        (tabling false (config_held held) v table)
-    held_takes n {plan} q p =
-        let h = prepared_some held plan q in
-        rw (flag_held n h.usable_held) (behind_takes s (config_held held) f.next false h.valid h.is map table p)
+        → Takes (read s (audio_mux_element held)) map table h p v map' table h p
+    held_takes n {plan} q {v} {map'} g =
+        let d = prepared_some held plan q in
+        let k = unsent (config_held held) v table h p in
+        let t : Takes (read s (audio_mux_element held)) map table h p v map' (tabling false (config_held held) v table)
+        (sending false (config_held held) v h) (preparing false (config_held held) v p) =
+        rw (flag_held n d.usable_held) (behind_takes s (config_held held) f.next false d.valid d.is map table h p g) in
+        (t.0, t.1, sym k.0 ∙ t.2, sym k.1 ∙ t.3, sym k.2 ∙ t.4)
 
 -- ---- before any field
 
-module _ (s : List ℕ) (held : Held) (map : List ℕ) (table : List (List ℕ)) where
-  pub map_small : length map < 4368 → Takes (answer s held (length map)) map table (Err (unread 1)) map table
-  unfolding answer
-  map_small h = rw (lt-ltb (length map) 4368 h) (refl, refl, refl)
+module _ (s : List ℕ) (held : Held) (map : List ℕ) (table : List (List ℕ)) (sent : Held) (p : Option Plan) where
+  -- it is refused with this number, and nothing is changed
+  abbrev pub Unread : ℕ → Type 0
+  Unread k = Takes (answer s held (length map)) map table sent p (Err (unread k)) map table sent p
 
-  pub length_none : 4368 ≤ length map → length s ≡ 0 → Takes (answer s held (length map)) map table (Err (unread 2)) map table
+  pub map_small : length map < 4368 → Unread 1
   unfolding answer
-  length_none h e = rw (le-ltb (length map) 4368 h, eq-eqb (length s) 0 e) (refl, refl, refl)
+  map_small h = rw (lt-ltb (length map) 4368 h) (refl, refl, refl, refl, refl)
 
-  pub length_over : 4368 ≤ length map → (length s ≡ 0 → ⊥) → 8191 < length s
-      → Takes (answer s held (length map)) map table (Err (unread 2)) map table
+  pub length_none : 4368 ≤ length map → length s ≡ 0 → Unread 2
+  unfolding answer
+  length_none h e = rw (le-ltb (length map) 4368 h, eq-eqb (length s) 0 e) (refl, refl, refl, refl, refl)
+
+  pub length_over : 4368 ≤ length map → (length s ≡ 0 → ⊥) → 8191 < length s → Unread 2
   unfolding answer
   length_over h e l =
-      rw (le-ltb (length map) 4368 h, ne_eqb (length s) 0 e, lt-ltb 8191 (length s) l) (refl, refl, refl)
+      rw (le-ltb (length map) 4368 h, ne_eqb (length s) 0 e, lt-ltb 8191 (length s) l) (refl, refl, refl, refl, refl)
 
   pub length_right : 4368 ≤ length map → (length s ≡ 0 → ⊥) → length s ≤ 8191
       → answer s held (length map) ≡ read s (audio_mux_element held)
@@ -256,32 +277,8 @@ module _ (s : List ℕ) (held : Held) (map : List ℕ) (table : List (List ℕ))
 
 -- ---- the reply
 
--- by what was taken, with what was prepared before
-abbrev pub with_sent : Option Plan → Accepted → Option Sent → PreparedReply
-with_sent p a (Some t) = record { verdict = Ok a; sent = Some t.config; prepared = Some t.plan }
-with_sent p a None = record { verdict = Ok a; sent = None; prepared = p }
-
-abbrev pub reply_from : Option Plan → Result Taken Refusal → PreparedReply
-reply_from p (Ok t) = with_sent p t.accepted t.sent
-reply_from p (Err x) = record { verdict = Err x; sent = None; prepared = p }
-
-pub replied : (s : List ℕ) (held : Held) (room : ℕ) (p : Option Plan)
-    → reply_from p (taken_by (answer s held room)) ≡ replied_by p (answer s held room)
-replied s held room p = go (answer s held room) refl
-  where
-    go : (x : Answer Applied) → answer s held room ≡ x → reply_from p (taken_by x) ≡ replied_by p x
-    go (rejected r its) e = refl
-    go (accepted a its n) e = by_sent a.sent refl
-      where
-        by_sent : (t : Bool) → a.sent ≡ t
-            → with_sent p (record { items = length its; fields = n; sent = a.sent })
-            (cond t (Some (record { config = a.config; plan = plan_of a.config })) None)
-            ≡ record {
-              verdict = accepts (length its) n a.sent;
-              sent = cond t (Some a.config) None;
-              prepared = cond t (prepared_of (Some a.config)) p;
-            }
-        by_sent true h =
-            ap (λ (z : Option Plan). record { verdict = accepts (length its) n a.sent; sent = Some a.config; prepared = z })
-            (sym (prepared_valid a.config (sent_is_valid s held room a its n e h)))
-        by_sent false h = refl
+-- where nothing was sent before
+pub replied : (x : Answer Applied) (p p' : Option Plan) (sent : Held) (v : Result Accepted Refusal) → v ≡ verdict_of x
+    → sent ≡ option_or (sent_by x) None → p' ≡ prepared_after p x
+    → ◌≡◌ {A = PreparedReply} (record { verdict = v; sent = sent; prepared = p' }) (replied_by p x)
+replied x p p' sent v e f g = rw (e, f, g, or_none (sent_by x)) refl

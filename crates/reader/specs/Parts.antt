@@ -1,10 +1,9 @@
 -- What the functions below `read_prepared` promise: what a walk needs of a configuration, and the answer where one
 -- applies.
 use Rattle.std.specs.Prelude.{Bool, cond, List, ◌++◌, map, ℕ, ◌+◌, ◌*◌, ◌-◌, ◌≤◌, ◌<◌, eqb, length, get_or, replicate}
-use Rattle.std.specs.Prelude.{Option, Some, None, Result, Ok, Err}
+use Rattle.std.specs.Prelude.{Option, Some, None}
 use Rattle.kernel.specs.declared.Cursor.{Cursor}
-use Rattle.kernel.specs.declared.Refusal.{Refusal}
-use Rattle.kernel.specs.Element.{walk, Answer, accepted, rejected, ended, fields, item, with_item}
+use Rattle.kernel.specs.Element.{walk, Answer, ended, fields, item, with_item}
 use Rattle.records.specs.declared.Stream.{Stream}
 use Rattle.records.specs.declared.Record.{Record}
 use Rattle.records.specs.Blank.{no_stream}
@@ -12,7 +11,6 @@ use Rattle.records.specs.Table.{streams_in}
 use Rattle.element.specs.Mux.{kind_u, Applied, streams_of, applied, sent_element}
 use Rattle.walk.specs.declared.Plan.{Plan}
 use Rattle.walk.specs.Parts.{fronted}
-use Rattle.reader.specs.declared.Taken.{Taken}
 
 -- the bits of slots that are fixed
 abbrev pub fixed_bits : ℕ → ℕ → Option ℕ
@@ -47,12 +45,3 @@ behind_of s r sent c =
 -- the answer where a configuration stands at the cursor
 unfoldable pub sent_of : List ℕ → Cursor → Answer Applied
 sent_of s c = ended (8 * length s) (with_item (item fields kind_u 0 0 1) (walk s sent_element c.at c.fields))
-
--- what is taken from an element, by its answer: a configuration that was sent with its plan
-abbrev pub taken_by : Answer Applied → Result Taken Refusal
-taken_by (accepted a its n) =
-    Ok (record {
-      accepted = record { items = length its; fields = n; sent = a.sent };
-      sent = cond a.sent (Some (record { config = a.config; plan = plan_of a.config })) None;
-    })
-taken_by (rejected r its) = Err r.refusal

@@ -18,20 +18,6 @@ use kernel::{Cursor, Refusal, Window, fetch, refused_at, unread};
 use records::{Record, Stream, streams_in, valid};
 use walk::{Plan, finish};
 
-// A configuration that was sent, and what walks need of it.
-#[derive(Clone, Copy)]
-pub struct Sent {
-    pub config: Record,
-    pub plan: Plan,
-}
-
-// An accepted element, and the configuration that it sent, if it did.
-#[derive(Clone, Copy)]
-pub struct Taken {
-    pub accepted: Accepted,
-    pub sent: Option<Sent>,
-}
-
 // The verdict, the configuration that an accepted element sent, and what is then held, prepared.
 #[derive(Clone, Copy)]
 pub struct PreparedReply {
@@ -91,65 +77,62 @@ pub fn prepare(held: Option<Record>) -> Option<Plan>
     }
 }
 
-// Behind useSameStreamMux 0. The caller gets the table of an accepted configuration.
+// Behind useSameStreamMux 0. The caller gets the table of an accepted configuration. What is large is kept in place.
 fn with_sent(
     el: &[u8],
     c: Cursor,
     map: &mut [u32],
     table: &mut [[u8; 8]; 16],
-) -> Result<Taken, Refusal>
+    sent: &mut Option<Record>,
+    prepared: &mut Option<Plan>,
+) -> Result<Accepted, Refusal>
     requires { (4368 ≤ length map.old) × (c.at ≡ 1) × Stands el.now c }
-    ensures { Takes (sent_of el.now c) map.old table.old result map.new table.new }
+    ensures { Takes (sent_of el.now c) map.old table.old sent.old prepared.old
+        result map.new table.new sent.new prepared.new }
 {
     let mut filled = [[255; 8]; 16];
     let config = stream_mux_config(el, c, &mut filled)?;
     let plan = plan_of(config.value);
     let accepted = finish(el, &plan, true, config.next, map)?;
     *table = filled;
-    Ok(Taken {
-        accepted: accepted,
-        sent: Some(Sent {
-            config: config.value,
-            plan: plan,
-        }),
-    })
+    *sent = Some(config.value);
+    *prepared = Some(plan);
+    Ok(accepted)
 }
 
 // An element of a length that can be, into a map with room for every item.
 fn element_of(
     el: &[u8],
-    prepared: Option<Plan>,
     map: &mut [u32],
     table: &mut [[u8; 8]; 16],
-) -> Result<Taken, Refusal>
-    requires { (4368 ≤ length map.old) × (length el.now ≤ 8191) × OfHeld prepared }
-    ensures { TakesBy prepared (λ held. read el.now (audio_mux_element held))
-        map.old table.old result map.new table.new }
+    sent: &mut Option<Record>,
+    prepared: &mut Option<Plan>,
+) -> Result<Accepted, Refusal>
+    requires { (4368 ≤ length map.old) × (length el.now ≤ 8191) × OfHeld prepared.old }
+    ensures { TakesBy (λ held. read el.now (audio_mux_element held)) map.old table.old sent.old prepared.old
+        result map.new table.new sent.new prepared.new }
 {
     let flag = fetch(el, Window::Open, Cursor { at: 0, fields: 0 }, 1)?;
     if flag.value == 0 {
-        return with_sent(el, flag.next, map, table);
+        return with_sent(el, flag.next, map, table, sent, prepared);
     }
     let Some(plan) = prepared else {
         return Err(refused_at(4, 0, flag.next));
     };
-    let accepted = finish(el, &plan, false, flag.next, map)?;
-    Ok(Taken {
-        accepted: accepted,
-        sent: None,
-    })
+    finish(el, plan, false, flag.next, map)
 }
 
 // Refusals 1 and 2, or the element.
 fn sized_of(
     el: &[u8],
-    prepared: Option<Plan>,
     map: &mut [u32],
     table: &mut [[u8; 8]; 16],
-) -> Result<Taken, Refusal>
-    requires { OfHeld prepared }
-    ensures { TakesBy prepared (λ held. answer el.now held (length map.old))
-        map.old table.old result map.new table.new }
+    sent: &mut Option<Record>,
+    prepared: &mut Option<Plan>,
+) -> Result<Accepted, Refusal>
+    requires { OfHeld prepared.old }
+    ensures { TakesBy (λ held. answer el.now held (length map.old)) map.old table.old sent.old prepared.old
+        result map.new table.new sent.new prepared.new }
 {
     if map.len() < 4368 {
         return Err(unread(1));
@@ -157,7 +140,7 @@ fn sized_of(
     if el.len() == 0 || el.len() > 8191 {
         return Err(unread(2));
     }
-    element_of(el, prepared, map, table)
+    element_of(el, map, table, sent, prepared)
 }
 
 // One element, by what was prepared of the configuration held before it; its items are stored into the map lent, four
@@ -172,24 +155,13 @@ pub fn read_prepared(
     ensures { PreparedPromise el.now prepared map.old table.old
         result map.new table.new }
 {
-    match sized_of(el, prepared, map, table) {
-        Ok(taken) => match taken.sent {
-            Some(sent) => PreparedReply {
-                verdict: Ok(taken.accepted),
-                sent: Some(sent.config),
-                prepared: Some(sent.plan),
-            },
-            None => PreparedReply {
-                verdict: Ok(taken.accepted),
-                sent: None,
-                prepared: prepared,
-            },
-        },
-        Err(x) => PreparedReply {
-            verdict: Err(x),
-            sent: None,
-            prepared: prepared,
-        },
+    let mut sent = None;
+    let mut then = prepared;
+    let verdict = sized_of(el, map, table, &mut sent, &mut then);
+    PreparedReply {
+        verdict: verdict,
+        sent: sent,
+        prepared: then,
     }
 }
 

@@ -15,23 +15,39 @@ use kernel::{Refusal, lay};
 use records::Record;
 use summary_lines::{lay_refused, lay_rows};
 
-// Records are compared only where one was sent. They are lent by value: with references the proof did not close.
+// The rows of a record that was sent, where it is not what is held.
 #[tactic(auto, using(records::proofs::Derived::record_is))]
-fn lay_accepted(
+fn lay_changed(
     out: &mut [u8],
     at: usize,
     element: usize,
     held: Option<Record>,
-    sent: Option<Record>,
+    r: Record,
     table: [[u8; 8]; 16],
 ) -> usize
     requires { at + 14336 ≤ 1000000 }
     ensures { (result ≤ at + 14336)
-        × Stored out.old at (accepted_by element held sent table) out.new result }
+        × Stored out.old at (accepted_by element held (Some r) table) out.new result }
+{
+    if held == Some(r) { at } else { lay_rows(out, at, element, r, table) }
+}
+
+// Records are copied and compared only where one was sent.
+fn lay_accepted(
+    out: &mut [u8],
+    at: usize,
+    element: usize,
+    held: &Option<Record>,
+    sent: &Option<Record>,
+    table: &[[u8; 8]; 16],
+) -> usize
+    requires { at + 14336 ≤ 1000000 }
+    ensures { (result ≤ at + 14336)
+        × Stored out.old at (accepted_by element held.now sent.now table.now) out.new result }
 {
     match sent {
-        Some(r) if held != sent => lay_rows(out, at, element, r, table),
-        _ => at,
+        Some(r) => lay_changed(out, at, element, *held, *r, *table),
+        None => at,
     }
 }
 
@@ -94,7 +110,7 @@ fn lay_verdict(
 {
     let number = from.holding.mark.number;
     match step.verdict {
-        Ok(_) => lay_accepted(out, at, number, from.holding.held, step.sent, *table),
+        Ok(_) => lay_accepted(out, at, number, &from.holding.held, &step.sent, table),
         Err(x) => lay_refusal(out, at, number, first_wanting(from.said, x), x),
     }
 }
