@@ -1,5 +1,6 @@
 -- What a production comes to, step by step: each step is an equation of what is told.
-use Rattle.std.proofs.Common.{◌≡◌, refl, ap, ◌∙◌, ℕ, ◌+◌, ◌-◌, ◌*◌, Bool, true, false, cond, List, length, ltb, Result, Ok, Err, min, arith}
+use Rattle.std.proofs.Common.{◌≡◌, refl, ap, ◌∙◌, ℕ, ◌+◌, ◌-◌, ◌*◌, ◌≤◌, Bool, true, false, cond, List, length, ltb, Result, Ok, Err, min, arith}
+use borrow.Author.Tests.{le-ltb}
 use Rattle.std.proofs.lemmas.Bool.Decides.{nat_tests}
 use Rattle.kernel.specs.declared.Window.{Window}
 use Rattle.kernel.specs.declared.Refusal.{Refusal}
@@ -89,6 +90,11 @@ module _ (s : List ℕ) (c : Cursor) where
       ≡ behind (told s (field win w) c) (λ r. Err (refused_at m (c.at - b) r.next.fields))
   unfolding told run field
   told_refuse_after win w m b = on_fit_as (fit win (8 * length s) (c.at + w)) c.at c.fields _ _ _ refl
+
+-- a field that stands there whole, without a window, is not refused
+pub fetched_some : (s : List ℕ) (c : Cursor) (w : ℕ) {x : Refusal} → c.at + w ≤ 8 * length s
+    → Err x ≡ told s (field Open w) c → ⊥
+fetched_some s c w h e = let q = rw (told_field s c Open w, le-ltb (8 * length s) (c.at + w) h) at e in cc
 
 -- what follows bits that were passed over
 abbrev pub past : {A : Type 0} → Result Cursor Refusal → (Cursor → Result (Read A) Refusal) → Result (Read A) Refusal

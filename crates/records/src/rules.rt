@@ -5,7 +5,7 @@ ghost use Rattle.records.specs.Valid.{valid_freq, valid_form, valid_config, vali
 ghost use Rattle.records.specs.Valid.{blank_stream};
 ghost use Rattle.records.specs.Valid.{stream_ok, streams_ok, layer_ok, layers_ok, head_ok, ending_ok, valid_of};
 
-use crate::{Config, Form, Freq, Record, Stream, no_stream, streams_in};
+use crate::{Config, Form, Freq, Record, Stream, streams_in};
 
 fn valid_freq(f: Freq) -> bool
     ensures { result ≡ valid_freq f }
@@ -58,11 +58,27 @@ fn valid_stream(version: u32, s: Stream) -> bool
     valid_config(version, s.config) && valid_fixed(s.kind, s.fullness, s.fixed)
 }
 
-#[tactic(auto, using(crate::proofs::Derived::blank_is))]
+// By a pattern: it takes fewer steps than the derived equality, and a record has up to 15 such streams.
 fn blank_stream(s: Stream) -> bool
     ensures { result ≡ blank_stream s }
 {
-    s == no_stream()
+    matches!(
+        s,
+        Stream {
+            config: Config {
+                core: 0,
+                freq: Freq::Index(0),
+                channels: 0,
+                flag: 0,
+                depends: 0,
+                extension: 0,
+                form: Form::None,
+            },
+            kind: 0,
+            fullness: 0,
+            fixed: 0,
+        }
+    )
 }
 
 fn stream_ok(version: u32, k: usize, i: usize, s: Stream) -> bool

@@ -1,6 +1,9 @@
 // Cases of a script that read: H, R, W and S. Each says whether the script goes on.
 #![tactic(auto)]
 
+ghost use Rattle.std.specs.Prelude.{◌≡◌};
+ghost use Rattle.element.specs.Held.{held_if};
+
 use element::Accepted;
 use kernel::Refusal;
 use record_words::RECORD_WORDS;
@@ -15,6 +18,15 @@ use std::io::{Read, Write};
 pub struct Lent {
     pub present: bool,
     pub record: Record,
+}
+
+impl Lent {
+    // What is held.
+    fn held(&self) -> Option<Record>
+        ensures { result ≡ held_if self.now.present self.now.record }
+    {
+        self.present.then_some(self.record)
+    }
 }
 
 // H: a record that is lent as held; None where the script ends.
@@ -63,7 +75,7 @@ fn say_verdict<W: Write>(
 // Reads an element into a map that is set to 7; what is then held.
 fn read_into<W: Write>(to: &mut W, el: &[u8], lent: Lent, map: &mut [u32]) -> io::Result<Lent> {
     map::set_all(map);
-    let reply = reader::read(el, lent.present.then_some(lent.record), map);
+    let reply = reader::read(el, lent.held(), map);
     say_verdict(to, reply.verdict, map)?;
     match reply.held {
         Some(r) => Ok(Lent {

@@ -1,6 +1,6 @@
 -- The cases that document 01 marks P, in one table, and the claim that they come out as it says. proofs/Worked.antt has
 -- the theorem.
-use Rattle.std.specs.Prelude.{◌≡◌, Bool, true, false, cond, Some, None, Result, Ok, Err, List, [], ◌∷◌, ◌++◌, ℕ, ◌-◌, ℤ, pos, negsuc, length, drop, replicate}
+use Rattle.std.specs.Prelude.{◌≡◌, true, false, Some, None, Result, Ok, Err, List, [], ◌∷◌, ◌++◌, ℕ, ◌-◌, ℤ, pos, negsuc, length, drop, replicate}
 use Rattle.kernel.specs.declared.Window.TheVariants.{UpTo}
 use Rattle.kernel.specs.declared.Cursor.{Cursor}
 use Rattle.kernel.specs.declared.Read.{Read}
@@ -23,7 +23,7 @@ use Rattle.numbers.specs.Values.{latm_get_value}
 use Rattle.asc.specs.Asc.{audio_specific_config}
 use Rattle.config.specs.Mux.{windowed}
 use Rattle.element.specs.declared.Accepted.{Accepted}
-use Rattle.element.specs.Held.{Held}
+use Rattle.element.specs.Held.{Held, held_if}
 use Rattle.element.specs.Reply.{answer, accepts, verdict_of, reply_of, map_after}
 
 -- element s held v then map: the element s with `held` held has the verdict v and the map `map`, in which other numbers
@@ -56,13 +56,9 @@ read v at n = Ok (record { value = v; next = from at n })
 abbrev pub nothing_held : Held
 nothing_held = None
 
--- a record that is held,
+-- a record that is held
 abbrev pub holds : Record → Held
 holds r = Some r
-
--- and one that is held only where a flag says so
-abbrev held_if : Bool → Record → Held
-held_if present r = cond present (holds r) nothing_held
 
 -- a map of 4,368 numbers, as it was lent
 abbrev lent : List ℕ
