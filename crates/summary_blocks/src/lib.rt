@@ -29,7 +29,11 @@ fn lay_changed(
     ensures { (result ≤ at + 14336)
         × Stored out.old at (accepted_by element held (Some r) table) out.new result }
 {
-    if held == Some(r) { at } else { lay_rows(out, at, element, r, table) }
+    if held == Some(r) {
+        at
+    } else {
+        lay_rows(out, at, element, r, table)
+    }
 }
 
 // Records are copied and compared only where one was sent.
