@@ -9,7 +9,7 @@ ghost use Rattle.capture.specs.Promises.{IsOfSome, BlockPromise};
 
 use element::Accepted;
 use kernel::Refusal;
-use reader::read_prepared;
+use reader::read_in_place;
 use records::Record;
 use sync::{element_at, hunt};
 use walk::Plan;
@@ -63,7 +63,7 @@ pub fn start_holding() -> Holding
     }
 }
 
-// Hunts for the next frame, if one is left, and reads its element into the map and the table lent, as `read_prepared`
+// Hunts for the next frame, if one is left, and reads its element into the map and the table lent, as `read_in_place`
 // does. Of no capture has an element a number that the remainder changes.
 pub fn advance(
     capture: &[u8],
@@ -77,16 +77,18 @@ pub fn advance(
 {
     let found = hunt(capture, from.at).ok()?;
     let el = element_at(capture, found.place, found.size);
-    let reply = read_prepared(el, from.prepared, map, table);
+    let mut sent = None;
+    let mut prepared = from.prepared;
+    let verdict = read_in_place(el, map, table, &mut sent, &mut prepared);
     Some(Step {
         place: found.place,
         size: found.size,
-        verdict: reply.verdict,
-        sent: reply.sent,
+        verdict: verdict,
+        sent: sent,
         next: Mark {
             at: found.place + 3 + found.size,
             number: from.number % 65536 + 1,
-            prepared: reply.prepared,
+            prepared: prepared,
         },
     })
 }

@@ -1,4 +1,4 @@
--- What the functions below `read_prepared` promise: what a walk needs of a configuration, and the answer where one
+-- What the functions below `read_in_place` promise: what a walk needs of a configuration, and the answer where one
 -- applies.
 use Rattle.std.specs.Prelude.{Bool, cond, List, ◌++◌, map, ℕ, ◌+◌, ◌*◌, ◌-◌, ◌≤◌, ◌<◌, eqb, length, get_or, replicate}
 use Rattle.std.specs.Prelude.{Option, Some, None}

@@ -122,8 +122,10 @@ fn element_of(
     finish(el, plan, false, flag.next, map)
 }
 
-// Refusals 1 and 2, or the element.
-fn sized_of(
+// One element, by what was prepared of the configuration held before it; its items are stored into the map lent, four
+// numbers each, and the streams of an accepted configuration into the table lent. What it sent and what is then held,
+// prepared, are left in their places.
+pub fn read_in_place(
     el: &[u8],
     map: &mut [u32],
     table: &mut [[u8; 8]; 16],
@@ -143,8 +145,7 @@ fn sized_of(
     element_of(el, map, table, sent, prepared)
 }
 
-// One element, by what was prepared of the configuration held before it; its items are stored into the map lent, four
-// numbers each, and the streams of an accepted configuration into the table lent.
+// The same, with all of it in the reply.
 pub fn read_prepared(
     el: &[u8],
     prepared: Option<Plan>,
@@ -157,7 +158,7 @@ pub fn read_prepared(
 {
     let mut sent = None;
     let mut then = prepared;
-    let verdict = sized_of(el, map, table, &mut sent, &mut then);
+    let verdict = read_in_place(el, map, table, &mut sent, &mut then);
     PreparedReply {
         verdict: verdict,
         sent: sent,

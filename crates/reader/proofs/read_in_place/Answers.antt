@@ -1,8 +1,8 @@
--- `reader::sized_of` meets its contract.
+-- `reader::read_in_place` meets its contract.
 use Rattle.std.proofs.Common.{ap, ◌∙◌, Err, arith}
 use Rattle.reader.proofs.Whole.{Unread, map_small, length_none, length_over, length_right}
-use Rattle.reader.proofs.sized_of.Goals as goal
-use Rattle.reader.proofs.sized_of.Goals.{then-el-eq0-via-then-el-eq0, then-el-eq0-via-else-el-eq0+then-el-gt8191}
+use Rattle.reader.proofs.read_in_place.Goals as goal
+use Rattle.reader.proofs.read_in_place.Goals.{then-el-eq0-via-then-el-eq0, then-el-eq0-via-else-el-eq0+then-el-gt8191}
 
 pub returns-then-map-lt4368 : goal.returns-then-map-lt4368
 returns-then-map-lt4368 c held is =
