@@ -17,7 +17,7 @@ fn one<R: Read, W: Write>(
     more: &mut [u8],
     out: &mut [u8],
 ) -> io::Result<Option<Lent>> {
-    let r = lent.record;
+    let r = lent.config;
     let goes_on = match number(input, 1)? {
         Some(0x48) => return script_reading::hold(input, numbers),
         Some(0x52) => return script_reading::read(input, to, lent, bytes, numbers),
@@ -41,7 +41,7 @@ fn all<R: Read, W: Write>(
 ) -> io::Result<()> {
     let mut lent = Lent {
         present: false,
-        record: no_record(),
+        config: no_record(),
     };
     for _ in 0..1000000 {
         let Some(next) = one(input, to, lent, numbers, bytes, more, out)? else {

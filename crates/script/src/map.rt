@@ -18,7 +18,11 @@ pub fn set_all(map: &mut [u32])
 fn kept_from(map: &[u32], from: usize) -> bool
     ensures { result ≡ sevens_from map.now from }
 {
-    map.iter().skip(from).all(|n| *n == 7)
+    let mut kept = true;
+    for n in &map[from.min(map.len())..] {
+        kept &= *n == 7;
+    }
+    kept
 }
 
 // Says whether they are.

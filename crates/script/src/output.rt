@@ -1,6 +1,6 @@
 // Bytes that are lent to be written to: set to 7 throughout, and then what was written, and whether what
-// stands behind it is as it was set. `map` has the same of numbers. Both do it by std's `fill` and `all`: of a type
-// parameter 7 and `==` are known by relations, and the promises here are equations.
+// stands behind it is as it was set. `map` has the same of numbers, apart: of a type parameter 7 and `==` are known by
+// relations, and the promises here are equations.
 ghost use Rattle.std.specs.Prelude.{◌≡◌, length};
 ghost use Rattle.script.specs.Sevens.{sevens, sevens_from};
 
@@ -21,7 +21,11 @@ pub fn set_all(out: &mut [u8])
 fn kept_from(out: &[u8], from: usize) -> bool
     ensures { result ≡ sevens_from out.now from }
 {
-    out.iter().skip(from).all(|b| *b == 7)
+    let mut kept = true;
+    for b in &out[from.min(out.len())..] {
+        kept &= *b == 7;
+    }
+    kept
 }
 
 fn say_kept<W: Write>(to: &mut W, out: &[u8], from: usize) -> io::Result<()> {

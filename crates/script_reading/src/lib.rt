@@ -1,8 +1,10 @@
 // Cases of a script that read: H, R, W and S. Each says whether the script goes on.
 #![tactic(auto)]
 
-ghost use Rattle.std.specs.Prelude.{◌≡◌};
-ghost use Rattle.element.specs.Held.{held_if};
+ghost use Rattle.std.specs.Prelude.{◌≡◌, IfOk, length};
+ghost use Rattle.element.specs.Reply.{answer, map_after};
+ghost use Rattle.script.specs.Sevens.{sevens};
+ghost use Rattle.script_reading.specs.Lent.{held_of, lent_after};
 
 use element::Accepted;
 use kernel::Refusal;
@@ -17,15 +19,15 @@ use std::io::{Read, Write};
 #[derive(Clone, Copy)]
 pub struct Lent {
     pub present: bool,
-    pub record: Record,
+    pub config: Record,
 }
 
 impl Lent {
     // What is held.
     fn held(&self) -> Option<Record>
-        ensures { result ≡ held_if self.now.present self.now.record }
+        ensures { result ≡ held_of self.now }
     {
-        self.present.then_some(self.record)
+        self.present.then_some(self.config)
     }
 }
 
@@ -41,7 +43,7 @@ pub fn hold<R: Read>(input: &mut R, words: &mut [u32]) -> io::Result<Option<Lent
     }
     Ok(Some(Lent {
         present: present == 1,
-        record: record_words::record_in(words),
+        config: record_words::record_in(words),
     }))
 }
 
@@ -73,14 +75,17 @@ fn say_verdict<W: Write>(
 }
 
 // Reads an element into a map that is set to 7; what is then held.
-fn read_into<W: Write>(to: &mut W, el: &[u8], lent: Lent, map: &mut [u32]) -> io::Result<Lent> {
+fn read_into<W: Write>(to: &mut W, el: &[u8], lent: Lent, map: &mut [u32]) -> io::Result<Lent>
+    ensures lent { IfOk result (λ l. l ≡ lent_after lent el.now (length map.old)) }
+    ensures map { map.new ≡ map_after (sevens (length map.old)) (answer el.now (held_of lent) (length map.old)) }
+{
     map::set_all(map);
     let reply = reader::read(el, lent.held(), map);
     say_verdict(to, reply.verdict, map)?;
     match reply.held {
         Some(r) => Ok(Lent {
             present: true,
-            record: r,
+            config: r,
         }),
         None => Ok(lent),
     }

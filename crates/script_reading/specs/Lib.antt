@@ -1,0 +1,2 @@
+-- What a script holds.
+pub mod Lent
