@@ -1,6 +1,6 @@
 // Bytes that are lent to be written to: set to 7 throughout, and then what was written, and whether what
-// stands behind it is as it was set. `map` has the same of numbers, apart: of a type parameter 7 and `==` are known by
-// relations, and the promises here are equations.
+// stands behind it is as it was set. `map` does the same for numbers, on its own: of a type parameter 7 and `==` are
+// known by relations, and the promises here are equations.
 ghost use Rattle.std.specs.Prelude.{◌≡◌, length};
 ghost use Rattle.script.specs.Sevens.{sevens, sevens_from};
 

@@ -8,11 +8,11 @@ use Rattle.script_reading.specs.declared.Lent.{Lent}
 abbrev pub held_of : Lent → Held
 held_of lent = held_if lent.present lent.config
 
--- a record that is held takes its place
+-- what is lent once this is held: the record held, in place of the one that was lent
 abbrev pub lent_by : Lent → Held → Lent
 lent_by lent (Some r) = record { present = true; config = r }
 lent_by lent None = lent
 
--- after an element s, with room for so many numbers in the map
+-- what is lent after an element s, with room for so many numbers in the map
 abbrev pub lent_after : Lent → List ℕ → ℕ → Lent
 lent_after lent s room = lent_by lent (reply_of s (held_of lent) room).held
